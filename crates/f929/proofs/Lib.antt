@@ -1,0 +1,4 @@
+pub mod Mod
+pub mod Euclid
+pub mod Residues
+pub mod Prime
