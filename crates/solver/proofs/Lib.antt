@@ -1,0 +1,9 @@
+pub mod RowTurns
+pub mod RowPolys
+pub mod PairPolys
+pub mod Turns
+pub mod Beginning
+pub mod TermOrder
+pub mod Ending
+pub mod SolePair
+pub mod Refusing
