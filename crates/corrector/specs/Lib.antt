@@ -1,0 +1,4 @@
+pub mod Corrected
+pub mod RowSteps
+pub mod MendSteps
+pub mod SearchSteps
