@@ -1,0 +1,4 @@
+pub mod Written
+pub mod Told
+pub mod Changes
+pub mod Adding
