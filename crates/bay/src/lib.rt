@@ -1,5 +1,7 @@
 // A bay: one word of a code over a field, with its marks and the report of the last correction.
 // Each call answers and does what the plain bay of specs/Plain.antt says. All memory is taken when a bay is made.
+#![tactic(auto)]
+
 ghost use Rattle.std.specs.Prelude.{◌≡◌, ◌<◌, ◌≤◌, true, vec_len, vec_capacity};
 ghost use Rattle.field.specs.Symbols.{all_below};
 ghost use Rattle.marks.specs.Held.{span};

@@ -1,4 +1,6 @@
 // The bench: lines from standard input, an answer to each on standard output.
+#![tactic(auto)]
+
 use script::converse;
 use std::io;
 use std::io::Read;

@@ -1,5 +1,7 @@
 // A call to a bay as a value, and lists of calls made one after another.
 // However the calls are mixed, answers, buffers and the bay come out as the plain bay's (specs/Steps.antt).
+#![tactic(auto)]
+
 ghost use Rattle.std.specs.Prelude.{◌≡◌, map, MatchResult};
 ghost use Rattle.code.specs.Refusals.{numbered};
 ghost use Rattle.bay.specs.Plain.{empty, testing, placing};

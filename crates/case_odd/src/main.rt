@@ -1,4 +1,6 @@
 // The bench on input from other people's hands: bytes that are no line.
+#![tactic(auto)]
+
 use script::converse;
 use std::io;
 use std::io::Read;

@@ -1,4 +1,6 @@
 // The bench on a reel word: every letter and every refusal that a line can meet.
+#![tactic(auto)]
+
 use script::converse;
 use std::io;
 use std::io::Read;

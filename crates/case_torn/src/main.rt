@@ -1,4 +1,6 @@
 // The bench on a published label torn up to the limit and restored, and then beyond it and refused.
+#![tactic(auto)]
+
 use script::converse;
 use std::io;
 use std::io::Read;

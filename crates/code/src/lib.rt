@@ -1,5 +1,7 @@
 // Codes, the words that belong to them, and why a call is turned down.
 // A code that exists keeps its bounds in its type, so no call on a code looks again.
+#![tactic(auto)]
+
 ghost use Rattle.std.specs.Prelude.{◌<◌, ◌≤◌};
 
 mod ops;

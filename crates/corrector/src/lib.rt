@@ -1,5 +1,7 @@
 // The codeword in reach of a word with erasures, on slices and apart from any bay.
 // Syndromes, the least pair of the modified syndromes, its roots, the amounts, and a test of the word so found before anything is written.
+#![tactic(auto)]
+
 ghost use Rattle.std.specs.Prelude.{◌≡◌};
 ghost use Rattle.code.specs.Shape.{shape};
 ghost use Rattle.code.specs.Refusals.{numbered};

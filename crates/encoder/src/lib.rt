@@ -2,6 +2,8 @@
 // The checks are laid by a shift register over the generator polynomial, the polynomial whose roots are those of the code.
 // The register is the first places of the word itself, so nothing is allocated and the message is gone through once.
 // And syndromes, the check sums of a word all at once, from what a division by the generator polynomial leaves.
+#![tactic(auto)]
+
 ghost use Rattle.std.specs.Prelude.{◌≡◌, ◌<◌, ◌≤◌, true, length, None, Ok, MatchResult, OnErr};
 ghost use Rattle.field.specs.Symbols.{all_below, Within};
 ghost use Rattle.code.specs.Shape.{shape};

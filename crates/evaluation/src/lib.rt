@@ -1,4 +1,6 @@
 // Values of polynomials at many points at once, and rows of powers of a field's step element to take as points.
+#![tactic(auto)]
+
 ghost use Rattle.evaluation.specs.Values.{Cleared, Powers, Values};
 
 use field::{Field, Fixed};

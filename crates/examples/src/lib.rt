@@ -1,5 +1,7 @@
 // Worked examples of the bay's calls and of solve, in one table that is proved as a whole.
 // The table stands in specs/Table.antt: each row names a field, a code or a congruence, and what a call gives.
+#![tactic(auto)]
+
 ghost use Rattle.std.specs.Prelude.{◌≡◌, length};
 ghost use Rattle.examples.specs.Table.{table, TableHolds};
 

@@ -1,5 +1,7 @@
 // The field of sixteen symbols: polynomials over two elements modulo x⁴ + x + 1, worked by shifts.
 // Each question is answered for every number; what a number of 16 or more is answered stands at the trait.
+#![tactic(auto)]
+
 ghost use Rattle.std.specs.Prelude.{◌≡◌, ◌<◌};
 ghost use Rattle.binary.specs.Polynomials.{product as multiplied, shifted as moved};
 ghost use Rattle.field.specs.Meaning.{pow};

@@ -1,5 +1,7 @@
 // The field of 256 symbols: polynomials over two elements modulo x⁸ + x⁴ + x³ + x² + 1, worked by tables.
 // Each question is answered for every number; what a number of 256 or more is answered stands at the trait.
+#![tactic(auto)]
+
 ghost use Rattle.std.specs.Prelude.{◌≡◌, ◌+◌, ◌<◌, ◌≤◌};
 ghost use Rattle.field.specs.Meaning.{pow};
 ghost use Rattle.f256.specs.Bytes.{bytes};

@@ -1,5 +1,7 @@
 // The field of 929 symbols: whole numbers modulo 929, which is prime.
 // Each question is answered for every number; what a number of 929 or more is answered stands at the trait.
+#![tactic(auto)]
+
 ghost use Rattle.std.specs.Prelude.{◌≡◌, ◌*◌, ◌%◌, ◌<◌, ◌≤◌};
 ghost use Rattle.f929.specs.Coprime.{Coprime};
 ghost use Rattle.f929.specs.Residues.{residues};

@@ -1,5 +1,7 @@
 // What a field is asked, what it means, and the laws that it keeps.
 // Whoever adds a field shows the laws, and that each question answers by that field's own sum and product.
+#![tactic(auto)]
+
 ghost use Rattle.std.specs.Prelude.{◌≡◌, ◌<◌, ◌≤◌, ◌≢◌, Some, None};
 ghost use Rattle.field.specs.Meaning.{Meaning, Laws, pow};
 ghost use Rattle.field.specs.Rows.{Added, Advanced};

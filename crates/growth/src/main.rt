@@ -1,5 +1,7 @@
 // How the time of solve grows with N. Prints to standard error, since times differ from run to run: microseconds for
 // N = 32, 128 and 512, and the ratio to the line before, which is 16 where the time grows as the square.
+#![tactic(auto)]
+
 use f929::F929;
 use solver::solve;
 use std::io;

@@ -1,5 +1,7 @@
 // The lost map: which positions of a word are marked as lost, one bit for each, eight to a byte, lowest first.
 // A map has room for the largest code from the start, so that nothing allocates later.
+#![tactic(auto)]
+
 ghost use Rattle.std.specs.Prelude.{◌≡◌, ◌+◌, ◌/◌, ◌%◌, ◌^◌, ◌<◌, ◌≤◌, vec_len, vec_capacity, slice_index};
 
 mod bytes;

@@ -1,5 +1,7 @@
 // The report of a correction: how many marks it met, which positions it changed, and what stood there before.
 // A report has room for as many changes as a code has checks at most, so that nothing allocates later.
+#![tactic(auto)]
+
 ghost use Rattle.std.specs.Prelude.{◌≡◌, ◌≤◌, vec_len, vec_capacity};
 
 mod ops;

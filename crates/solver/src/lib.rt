@@ -1,5 +1,7 @@
 // The least pair of a congruence of polynomials, a ≡ b·g modulo x^n, in an order r on the terms of pairs.
 // `solve` takes any numbers; it refuses those that do not fit, and otherwise leaves the one least pair with leading coefficient 1.
+#![tactic(auto)]
+
 ghost use Rattle.std.specs.Prelude.{◌≡◌, ◌<◌, ◌≤◌, length, ℤ, pos, ◌+ℤ◌};
 ghost use Rattle.field.specs.Symbols.{Within};
 ghost use Rattle.solver.specs.Pairs.{EveryPairLeads, OnlyOne};

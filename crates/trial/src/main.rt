@@ -1,5 +1,7 @@
 // Holds the library against a second implementation, on all symbols of the three fields and on many words and pairs.
 // It prints how many cases of each kind there were and in how many the two differ, and the first of those in full.
+#![tactic(auto)]
+
 use random::Random;
 use second::arithmetic::{Arithmetic, Kind};
 use std::alloc::{AllocError, Global};

@@ -2,6 +2,8 @@
 // the lowest position first. The first ten are published: a label, and for each label code the word whose message
 // is a single 1, so that its checks are the coefficients of the generator. Each is tested, encoded again from its message alone, and restored after damage at the
 // limit: errors only, marks only, and both.
+#![tactic(auto)]
+
 use code::Code;
 use code::word::first_failing_root;
 use corrector::correct;
