@@ -3,11 +3,11 @@ use Rattle.evaluation.proofs.Powering.{Powering, powering_none, powering_ahead, 
 use Rattle.evaluation.proofs.powers.Goals as goal
 use Rattle.evaluation.proofs.powers.Goals.{then-e, else-e}
 
-pub nonzero-rem-by : goal.nonzero-rem-by
-nonzero-rem-by g c = let field = c.args.field.now in omega (arith, g.met.F.Fixed.turn field, (g.met.F.Field.lawful field).m_low)
+pub nonzero_rem-by : goal.nonzero_rem-by
+nonzero_rem-by g c = let field = c.args.field.now in omega (arith, g.met.F.Fixed.turn field, (g.met.F.Field.lawful field).m_low)
 
-pub nonzero-rem-e : goal.nonzero-rem-e
-nonzero-rem-e g c = let field = c.args.field.now in omega (arith, g.met.F.Fixed.turn field, (g.met.F.Field.lawful field).m_low)
+pub nonzero_rem-e : goal.nonzero_rem-e
+nonzero_rem-e g c = let field = c.args.field.now in omega (arith, g.met.F.Fixed.turn field, (g.met.F.Field.lawful field).m_low)
 
 pub loop-x-init : goal.loop-x-init
 loop-x-init g c =

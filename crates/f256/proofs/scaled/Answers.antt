@@ -17,6 +17,6 @@ returns-then-y-ge-SYMBOLS c =
 pub returns-else-y-ge-SYMBOLS : goal.returns-else-y-ge-SYMBOLS
 returns-else-y-ge-SYMBOLS c =
     record {
-      within = λ h. c.power-of-sum.ensures ∙ pow_add bytes bytes_laws 2 c.args.i c.logarithm.result (lit< tt) ∙ ap (bytes.prod (pow bytes 2 c.args.i)) c.logarithm.ensures.back;
+      within = λ h. c.power_of_sum.ensures ∙ pow_add bytes bytes_laws 2 c.args.i c.logarithm.result (lit< tt) ∙ ap (bytes.prod (pow bytes 2 c.args.i)) c.logarithm.ensures.back;
       beyond = λ h. absurd (omega arith);
     }

@@ -12,12 +12,12 @@ inverse-y-requires t c =
     let below : c.args.n % c.args.x < c.args.x = mod-lt c.args.n (omega arith) in
     (omega arith, (left_over c.args.x c.args.n more c.requires.coprime, (below, (omega arith, next c.args.x c.args.n c.requires.coprime))))
 
-pub overflow-sub-result : goal.overflow-sub-result
-overflow-sub-result t c =
+pub overflow_sub-result : goal.overflow_sub-result
+overflow_sub-result t c =
     (back c.args.x c.args.n c.inverse-y.result (omega arith) c.requires.high c.inverse-y.ensures.below c.inverse-y.ensures.right).some_left
 
-pub overflow-sub-result-2 : goal.overflow-sub-result-2
-overflow-sub-result-2 t c =
+pub overflow_sub-result-2 : goal.overflow_sub-result-2
+overflow_sub-result-2 t c =
     (back c.args.x c.args.n c.inverse-y.result (omega arith) c.requires.high c.inverse-y.ensures.below c.inverse-y.ensures.right).fits
 
 pub returns : goal.returns

@@ -5,14 +5,14 @@ use Rattle.field.proofs.Powers.{weighed_more}
 use Rattle.field.proofs.Symbols.{symbol_at}
 use Rattle.code.proofs.word.weighed_sum.Goals as goal
 
-pub nonzero-rem-e : goal.nonzero-rem-e
-nonzero-rem-e g c =
+pub nonzero_rem-e : goal.nonzero_rem-e
+nonzero_rem-e g c =
     let l = (g.met.F.Field.lawful c.args.field.now).m_low in
     let t = g.met.F.Fixed.turn c.args.field.now in
     omega arith
 
-pub overflow-cast-e : goal.overflow-cast-e
-overflow-cast-e g c =
+pub overflow_cast-e : goal.overflow_cast-e
+overflow_cast-e g c =
     let low = (g.met.F.Field.lawful c.args.field.now).m_low in
     let l = (g.met.F.Field.lawful c.args.field.now).m_high in
     let h = (g.met.F.Field.lawful c.args.field.now).q_high in

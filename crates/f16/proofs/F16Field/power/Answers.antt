@@ -4,6 +4,6 @@ use Rattle.binary.specs.Polynomials.{shifted, product}
 use Rattle.f16.proofs.F16Field.power.Goals as goal
 
 -- the rule of the table, at all of it: antt computes the powers and compares them
-pub power-in-requires : goal.power-in-requires
+pub power_in-requires : goal.power_in-requires
 unfolding turn shifted product
-power-in-requires c = refl
+power_in-requires c = refl

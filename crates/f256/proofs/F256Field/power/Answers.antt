@@ -5,4 +5,4 @@ use Rattle.f256.specs.BytesLemmas.{bytes_laws}
 use Rattle.f256.proofs.F256Field.power.Goals as goal
 
 pub returns : goal.returns
-returns c = c.power-of.ensures ∙ pow_mod bytes bytes_laws c.args.i
+returns c = c.power_of.ensures ∙ pow_mod bytes bytes_laws c.args.i

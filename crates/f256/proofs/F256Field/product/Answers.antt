@@ -25,10 +25,10 @@ pub returns : goal.returns
 returns c =
     let i = c.logarithm.result in
     let j = c.logarithm-2.result in
-    let k : c.if-both-lt-TURN.power-of ≡ (i + j) % 255 =
-    elim c.if-both-lt-TURN.branch [ then-both-lt-TURN w ↦ omega (arith, w.power-of-is) | else-both-lt-TURN w ↦ omega (arith, w.power-of-is) ] in
+    let k : c.if-both-lt-TURN.power_of ≡ (i + j) % 255 =
+    elim c.if-both-lt-TURN.branch [ then-both-lt-TURN w ↦ omega (arith, w.power_of-is) | else-both-lt-TURN w ↦ omega (arith, w.power_of-is) ] in
     record {
-      within = λ hx hy. c.power-of.ensures ∙ ap (pow bytes 2) k ∙ pow_mod bytes bytes_laws (i + j) ∙ pow_add bytes bytes_laws 2 i j (lit< tt)
+      within = λ hx hy. c.power_of.ensures ∙ ap (pow bytes 2) k ∙ pow_mod bytes bytes_laws (i + j) ∙ pow_add bytes bytes_laws 2 i j (lit< tt)
           ∙ ap₂ (product 8 285) c.logarithm.ensures.back c.logarithm-2.ensures.back;
       left = λ h. absurd (omega arith);
       right = λ h. absurd (omega arith);

@@ -18,11 +18,11 @@ pair v i r h back is =
 pub returns : goal.returns
 returns c =
     let x = c.args.x in
-    let r = c.power-of.result in
+    let r = c.power_of.result in
     let i = c.logarithm-i.result in
-    let k : c.if-i-eq0.power-of ≡ (255 - i) % 255 =
-    elim c.if-i-eq0.branch [ then-i-eq0 w ↦ omega (arith, w.power-of-is) | else-i-eq0 w ↦ omega (arith, w.power-of-is) ] in
-    let is : r ≡ pow bytes 2 (255 - i) = c.power-of.ensures ∙ ap (pow bytes 2) k ∙ pow_mod bytes bytes_laws (255 - i) in
+    let k : c.if-i-eq0.power_of ≡ (255 - i) % 255 =
+    elim c.if-i-eq0.branch [ then-i-eq0 w ↦ omega (arith, w.power_of-is) | else-i-eq0 w ↦ omega (arith, w.power_of-is) ] in
+    let is : r ≡ pow bytes 2 (255 - i) = c.power_of.ensures ∙ ap (pow bytes 2) k ∙ pow_mod bytes bytes_laws (255 - i) in
     let below : r < 256 = subst (λ (n : ℕ). n < 256) (sym is) (pow_in bytes bytes_laws 2 (255 - i) (lit< tt)) in
     record {
       within = λ h nz. ap Some (recip_unique bytes bytes_laws x r h nz below (pair x i r c.logarithm-i.ensures.below c.logarithm-i.ensures.back is));

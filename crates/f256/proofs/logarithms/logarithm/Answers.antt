@@ -4,6 +4,6 @@ use Rattle.binary.specs.Polynomials.{shifted, product}
 use Rattle.f256.proofs.logarithms.logarithm.Goals as goal
 
 -- the rule of the table, at all of it: one test, which antt computes
-pub logarithm-in-requires : goal.logarithm-in-requires
+pub logarithm_in-requires : goal.logarithm_in-requires
 unfolding Logarithms turn shifted product
-logarithm-in-requires c = record { rule = refl; low = c.requires.low; high = c.requires.high }
+logarithm_in-requires c = record { rule = refl; low = c.requires.low; high = c.requires.high }

@@ -10,16 +10,16 @@ use Rattle.marks.proofs.LostMap.blank.Goals as goal
 filled : {X : Type 0} (n len : ℕ) (x : X) (was new : List X) (b : Bool) → b ≡ true → was ≡ [] → len ≡ 0 → new ≡ cond b (take n was ++ replicate (n - len) x) was → new ≡ replicate n x
 filled n len x was new b yep none zip e = e ∙ simp (yep, none, zip, take-nil, sub-zero)
 
-pub invariant-of-self : goal.invariant-of-self
-invariant-of-self c =
-    let zeros : vec_items c.resize.new.self ≡ replicate c.bytes-for.result 0 = filled c.bytes-for.result c.clear.new.self.len 0 c.clear.new.self.items c.resize.new.self.items _ (c.resize.ensures.succeeds (omega arith)) c.clear.ensures.items c.clear.ensures.len c.resize.ensures.items in
+pub invariant_of-self : goal.invariant_of-self
+invariant_of-self c =
+    let zeros : vec_items c.resize.new.self ≡ replicate c.bytes_for.result 0 = filled c.bytes_for.result c.clear.new.self.len 0 c.clear.new.self.items c.resize.new.self.items _ (c.resize.ensures.succeeds (omega arith)) c.clear.ensures.items c.clear.ensures.len c.resize.ensures.items in
     let P : ℕ → Type 0 = λ x. x < 2 ^ (c.args.n % 8) in
-    let at0 : get_or (vec_items c.resize.new.self) (c.args.n / 8) 0 ≡ 0 = ap (λ (l : List ℕ). get_or l (c.args.n / 8) 0) zeros ∙ zeros_at c.bytes-for.result (c.args.n / 8) in
-    (omega arith, (search rules, (subst P (sym at0) (pow_pos (c.args.n % 8)), (search rules, tt))))
+    let at0 : get_or (vec_items c.resize.new.self) (c.args.n / 8) 0 ≡ 0 = ap (λ (l : List ℕ). get_or l (c.args.n / 8) 0) zeros ∙ zeros_at c.bytes_for.result (c.args.n / 8) in
+    record { few = omega arith; long = search rules; tidy = subst P (sym at0) (pow_pos (c.args.n % 8)); room = search rules }
 
 pub returns : goal.returns
 unfolding flags
 returns c =
-    let zeros : vec_items c.resize.new.self ≡ replicate c.bytes-for.result 0 = filled c.bytes-for.result c.clear.new.self.len 0 c.clear.new.self.items c.resize.new.self.items _ (c.resize.ensures.succeeds (omega arith)) c.clear.ensures.items c.clear.ensures.len c.resize.ensures.items in
+    let zeros : vec_items c.resize.new.self ≡ replicate c.bytes_for.result 0 = filled c.bytes_for.result c.clear.new.self.len 0 c.clear.new.self.items c.resize.new.self.items _ (c.resize.ensures.succeeds (omega arith)) c.clear.ensures.items c.clear.ensures.len c.resize.ensures.items in
     let low : c.args.n ≤ 928 = omega arith in
-    record { value = sym (le-leb c.args.n 928 low); flags = ap (marks c.args.n) zeros ∙ marks_zeros c.args.n c.bytes-for.result; span = refl }
+    record { value = sym (le-leb c.args.n 928 low); flags = ap (marks c.args.n) zeros ∙ marks_zeros c.args.n c.bytes_for.result; span = refl }

@@ -7,5 +7,5 @@ pub returns : goal.returns
 unfolding flags
 returns c = record {
   value = sym (eq-eqb _ _ c.if-out-self.false);
-  after = c.write-marks.ensures ∙ ap₂ marks c.if-out-self.false c.as-slice.ensures.value;
+  after = c.write_marks.ensures ∙ ap₂ marks c.if-out-self.false c.as_slice.ensures.value;
 }

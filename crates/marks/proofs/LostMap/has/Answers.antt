@@ -11,5 +11,5 @@ returns-then-pos-self c = sym (mark_past _ _ c.args.pos (omega arith))
 pub returns : goal.returns
 unfolding flags
 returns c =
-    c.has-bit.ensures ∙ ap (λ (l : List ℕ). bit_at l c.args.pos) c.as-slice.ensures.value
+    c.has_bit.ensures ∙ ap (λ (l : List ℕ). bit_at l c.args.pos) c.as_slice.ensures.value
     ∙ sym (mark_at _ _ c.args.pos false (omega arith))

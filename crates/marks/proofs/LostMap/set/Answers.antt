@@ -13,15 +13,15 @@ returns-then-pos-self c =
     let past : length (marks m.n m.bytes.items) ≤ c.args.pos = omega (arith, length_marks m.n m.bytes.items) in
     record { flags = sym (set_past _ _ true past); span = refl }
 
-pub invariant-of-self : goal.invariant-of-self
-invariant-of-self c =
+pub invariant_of-self : goal.invariant_of-self
+invariant_of-self c =
     let m = c.args.self.now in
     let clean : Clean m.n m.bytes.items = record { bytes = sym m.bytes.ok.0 ∙ m.long; rest = m.tidy } in
-    (m.few, (m.long, (rest_on m.n m.bytes.items c.args.pos _ c.if-pos-self.false clean c.index-mut.ensures.value, (m.room, tt))))
+    record { few = m.few; long = m.long; tidy = rest_on m.n m.bytes.items c.args.pos _ c.if-pos-self.false clean c.index_mut.ensures.value; room = m.room }
 
 pub returns : goal.returns
 unfolding flags
 returns c =
     let m = c.args.self.now in
     let clean : Clean m.n m.bytes.items = record { bytes = sym m.bytes.ok.0 ∙ m.long; rest = m.tidy } in
-    record { flags = marks_on m.n m.bytes.items c.args.pos _ c.if-pos-self.false clean c.index-mut.ensures.value; span = refl }
+    record { flags = marks_on m.n m.bytes.items c.args.pos _ c.if-pos-self.false clean c.index_mut.ensures.value; span = refl }

@@ -6,8 +6,8 @@ use Rattle.std.proofs.lemmas.List.Sums.{sum_by_more}
 use Rattle.marks.proofs.Counting.{ones_marked}
 use Rattle.marks.proofs.bytes.count_bits.Goals as goal
 
-pub overflow-add-sum : goal.overflow-add-sum
-overflow-add-sum c =
+pub overflow_add-sum : goal.overflow_add-sum
+overflow_add-sum c =
     let small : get_or c.args.map.now c.loop-b.b-index 0 < 2 ^ 8 = omega arith in
     omega (arith, ones-le 8 (get_or c.args.map.now c.loop-b.b-index 0) small)
 

@@ -6,7 +6,7 @@ pub loop-pos-preserved : goal.loop-pos-preserved
 loop-pos-preserved c =
     below_more _ _
     (λ k h. let ne : k ≢ c.loop-pos.pos = omega arith in get_or-set_other c.loop-pos.out _ k _ false ne ∙ c.loop-pos.invariant k h)
-    (get_or-set_same c.loop-pos.out _ _ false (omega arith) ∙ c.has-bit.ensures)
+    (get_or-set_same c.loop-pos.out _ _ false (omega arith) ∙ c.has_bit.ensures)
 
 pub returns : goal.returns
 returns c =
