@@ -17,7 +17,7 @@ loop-i-preserved g c =
     let gen = c.args.generator.now in
     let old = c.args.row.now in
     let row = c.loop-i.row in
-    let new = put_mid (k - t) (k - (k - t)) row c.add-multiple.new.to in
+    let new = put_mid (k - t) (k - (k - t)) row c.add_multiple.new.to in
     let kept = c.loop-i.invariant.1 in
     let et : t ≡ r = c.checks-checks.ensures in
     let low : r < c.loop-i.i = omega arith in
@@ -28,7 +28,7 @@ loop-i-preserved g c =
     let ce : c.opposite-c.result ≡ f.opp (get_or row (k - t + r) 0) = c.opposite-c.ensures.within (kept.within k) ∙ ap (λ (n : ℕ). f.opp (get_or row n 0)) here in
     let c_in : c.opposite-c.result < f.q = subst (λ (n : ℕ). n < f.q) (sym ce) (l.opp_in _ (kept.within (k - t + r))) in
     let by : Taken f c.opposite-c.result (k - t) (k - (k - t)) gen row new =
-    taken f c.opposite-c.result (k - t) (k - (k - t)) (t - 0) gen row c.add-multiple.new.to cut (omega arith) (omega arith) c.add-multiple.auto.to c_in c.requires.generates.within kept.within c.add-multiple.ensures in (
+    taken f c.opposite-c.result (k - t) (k - (k - t)) (t - 0) gen row c.add_multiple.new.to cut (omega arith) (omega arith) c.add_multiple.auto.to c_in c.requires.generates.within kept.within c.add_multiple.ensures in (
       omega arith,
       subst (λ (n : ℕ). Dividing f b r n old new) (sym here)
           (dividing_more f l b r (k - t) c.opposite-c.result gen old row new c.requires.generates ce (subst (λ (n : ℕ). Dividing f b r n old row) ek kept) (subst (λ (n : ℕ). Taken f c.opposite-c.result (k - t) n gen row new) wide by)),

@@ -5,5 +5,5 @@ use Rattle.encoder.proofs.evaluate.Goals as goal
 pub returns : goal.returns
 returns g c =
     let field = c.args.field.now in
-    evaluated (g.F.Field.means field) (g.met.F.Field.lawful field) c.args.first-root c.args.remainder.now c.powers.new.out c.args.out.now c.values.new.out
+    evaluated (g.F.Field.means field) (g.met.F.Field.lawful field) c.args.first_root c.args.remainder.now c.powers.new.out c.args.out.now c.values.new.out
     c.requires.symbols (omega arith) (omega arith) c.powers.ensures c.values.ensures

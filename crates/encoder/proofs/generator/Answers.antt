@@ -14,11 +14,11 @@ loop-j-init g c =
     let b = (shape c.args.code.now).first in (
       refl,
       generates_none f (g.met.F.Field.lawful field) b _ refl (λ i h. get_or-set_other (replicate 513 0) 0 i 1 0 (omega arith) ∙ zeros_at 513 i),
-      ◌∙◌ {A = ℕ} c.power-root.ensures (ap (pow f f.a) (c.first-root.ensures ∙ sym (add-zero b))),
+      ◌∙◌ {A = ℕ} c.power-root.ensures (ap (pow f f.a) (c.first_root.ensures ∙ sym (add-zero b))),
     )
 
-pub slice-bounds-multiply-end : goal.slice-bounds-multiply-end
-slice-bounds-multiply-end g c = sym c.loop-j.invariant.0
+pub slice_bounds-multiply-end : goal.slice_bounds-multiply-end
+slice_bounds-multiply-end g c = sym c.loop-j.invariant.0
 
 pub multiply-requires : goal.multiply-requires
 multiply-requires g c =

@@ -7,13 +7,13 @@ use Rattle.encoder.proofs.syndromes.Goals as goal
 pub returns : goal.returns
 returns g c =
     let out = c.args.out.now in
-    let part = c.write-syndromes.new.out in
+    let part = c.write_syndromes.new.out in
     let k = c.checks-checks.result - 0 in
     let e : c.checks-checks.result ≡ (shape c.args.code.now).checks = c.checks-checks.ensures in
     record {
       answer = search rules;
       sums = record {
-        done = λ j h. get_or_append_left part _ 0 j (omega arith) ∙ c.write-syndromes.ensures.each.done j h;
+        done = λ j h. get_or_append_left part _ 0 j (omega arith) ∙ c.write_syndromes.ensures.each.done j h;
         rest = λ j h. put_high 0 k out part (omega arith) (omega arith) j (omega arith);
       };
     }

@@ -17,11 +17,11 @@ divide-requires g c =
     record {
       generates = c.generator-g.ensures;
       long = omega arith;
-      symbols = subst (λ (v : List ℕ). Within f.q v) (sym c.copy-from-slice.ensures.after) in_q;
+      symbols = subst (λ (v : List ℕ). Within f.q v) (sym c.copy_from_slice.ensures.after) in_q;
     }
 
-pub returns-then-is-zero : goal.returns-then-is-zero
-returns-then-is-zero g c =
+pub returns-then-is_zero : goal.returns-then-is_zero
+returns-then-is_zero g c =
     let field = c.args.field.now in
     let f = g.F.Field.means field in
     let l = g.met.F.Field.lawful field in
@@ -29,8 +29,8 @@ returns-then-is-zero g c =
     let w = c.args.word.now in
     let row = c.divide.new.row in
     let k = length c.args.out.now - 0 in
-    let d : Divided f sh.first sh.checks w row = subst (λ (v : List ℕ). Divided f sh.first sh.checks v row) c.copy-from-slice.ensures.after c.divide.ensures in
-    let zeros : all_below 1 (take k row) ≡ true = sym c.is-zero.ensures ∙ c.if-is-zero.true in
+    let d : Divided f sh.first sh.checks w row = subst (λ (v : List ℕ). Divided f sh.first sh.checks v row) c.copy_from_slice.ensures.after c.divide.ensures in
+    let zeros : all_below 1 (take k row) ≡ true = sym c.is_zero.ensures ∙ c.if-is_zero.true in
     record {
       all = zero_passes f l sh w row (take k row) d (omega arith) k (omega arith) refl zeros;
       each = zero_sums f l sh w row (take k row) d (omega arith) k (omega arith) refl zeros c.args.out.now c.clear.new.xs (length c.args.out.now) (omega arith) c.clear.ensures;
@@ -45,7 +45,7 @@ evaluate-requires g c =
     let w = c.args.word.now in
     let row = c.divide.new.row in
     let k = length c.args.out.now - 0 in
-    let d : Divided f sh.first sh.checks w row = subst (λ (v : List ℕ). Divided f sh.first sh.checks v row) c.copy-from-slice.ensures.after c.divide.ensures in
+    let d : Divided f sh.first sh.checks w row = subst (λ (v : List ℕ). Divided f sh.first sh.checks v row) c.copy_from_slice.ensures.after c.divide.ensures in
     record { points = omega arith; symbols = part_in f l sh w row (take k row) d (omega arith) k (omega arith) refl }
 
 pub returns : goal.returns
@@ -58,9 +58,9 @@ returns g c =
     let row = c.divide.new.row in
     let k = length c.args.out.now - 0 in
     let new = c.evaluate.new.out in
-    let d : Divided f sh.first sh.checks w row = subst (λ (v : List ℕ). Divided f sh.first sh.checks v row) c.copy-from-slice.ensures.after c.divide.ensures in
-    let vs = subst (λ (b : ℕ). Evaluated f b (take k row) new) c.first-root.ensures c.evaluate.ensures in
+    let d : Divided f sh.first sh.checks w row = subst (λ (v : List ℕ). Divided f sh.first sh.checks v row) c.copy_from_slice.ensures.after c.divide.ensures in
+    let vs = subst (λ (b : ℕ). Evaluated f b (take k row) new) c.first_root.ensures c.evaluate.ensures in
     record {
-      all = c.is-zero-2.ensures ∙ values_pass f l sh w row (take k row) d (omega arith) k (omega arith) refl c.args.out.now new (omega arith) (omega arith) vs;
+      all = c.is_zero-2.ensures ∙ values_pass f l sh w row (take k row) d (omega arith) k (omega arith) refl c.args.out.now new (omega arith) (omega arith) vs;
       each = values_sums f l sh w row (take k row) d (omega arith) k (omega arith) refl c.args.out.now new (omega arith) (omega arith) vs;
     }

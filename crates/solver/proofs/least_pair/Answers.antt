@@ -2,8 +2,8 @@ use Rattle.std.proofs.Common.{length, refl, arith}
 use Rattle.solver.proofs.Ending.{solved_left, solved_right, top_left, top_right}
 use Rattle.solver.proofs.least_pair.Goals as goal
 
-pub write-divided-a-requires : goal.write-divided-a-requires
-write-divided-a-requires g c =
+pub write_divided-a-requires : goal.write_divided-a-requires
+write_divided-a-requires g c =
     let field = c.args.field.now in
     let f = g.F.Field.means field in
     let w = g.met.F.Field.lawful field in
@@ -15,8 +15,8 @@ write-divided-a-requires g c =
       pair = h.symbols;
     }
 
-pub write-divided-a-requires-else-left-is-lower : goal.write-divided-a-requires-else-left-is-lower
-write-divided-a-requires-else-left-is-lower g c =
+pub write_divided-a-requires-else-left_is_lower : goal.write_divided-a-requires-else-left_is_lower
+write_divided-a-requires-else-left_is_lower g c =
     let field = c.args.field.now in
     let f = g.F.Field.means field in
     let w = g.met.F.Field.lawful field in
@@ -28,20 +28,20 @@ write-divided-a-requires-else-left-is-lower g c =
       pair = h.symbols;
     }
 
-pub returns-then-left-is-lower : goal.returns-then-left-is-lower
-returns-then-left-is-lower g c = λ r e.
+pub returns-then-left_is_lower : goal.returns-then-left_is_lower
+returns-then-left_is_lower g c = λ r e.
     let field = c.args.field.now in
     let f = g.F.Field.means field in
     let w = g.met.F.Field.lawful field in
     solved_left f w r c.args.order.plus c.args.order.minus e (length c.args.g.now) c.args.g.now c.run.new.left c.run.new.right c.requires.row (c.run.ensures.held w)
-    c.args.left.now c.args.right.now c.write-divided-a.new.left c.write-divided-a.new.right c.write-divided-a.result.0 c.write-divided-a.result.1
-    c.write-divided-a.auto.left c.write-divided-a.auto.right (c.if-left-is-lower.ensures.yes tt) c.write-divided-a.ensures
+    c.args.left.now c.args.right.now c.write_divided-a.new.left c.write_divided-a.new.right c.write_divided-a.result.0 c.write_divided-a.result.1
+    c.write_divided-a.auto.left c.write_divided-a.auto.right (c.if-left_is_lower.ensures.yes tt) c.write_divided-a.ensures
 
-pub returns-else-left-is-lower : goal.returns-else-left-is-lower
-returns-else-left-is-lower g c = λ r e.
+pub returns-else-left_is_lower : goal.returns-else-left_is_lower
+returns-else-left_is_lower g c = λ r e.
     let field = c.args.field.now in
     let f = g.F.Field.means field in
     let w = g.met.F.Field.lawful field in
     solved_right f w r c.args.order.plus c.args.order.minus e (length c.args.g.now) c.args.g.now c.run.new.left c.run.new.right c.requires.row (c.run.ensures.held w)
-    c.args.left.now c.args.right.now c.write-divided-a-else-left-is-lower.new.left c.write-divided-a-else-left-is-lower.new.right c.write-divided-a-else-left-is-lower.result.0 c.write-divided-a-else-left-is-lower.result.1
-    c.write-divided-a-else-left-is-lower.auto.left c.write-divided-a-else-left-is-lower.auto.right (c.if-left-is-lower.ensures.no refl) c.write-divided-a-else-left-is-lower.ensures
+    c.args.left.now c.args.right.now c.write_divided-a-else-left_is_lower.new.left c.write_divided-a-else-left_is_lower.new.right c.write_divided-a-else-left_is_lower.result.0 c.write_divided-a-else-left_is_lower.result.1
+    c.write_divided-a-else-left_is_lower.auto.left c.write_divided-a-else-left_is_lower.auto.right (c.if-left_is_lower.ensures.no refl) c.write_divided-a-else-left_is_lower.ensures

@@ -16,14 +16,14 @@ returns-in-Some g c =
       leads = every_pair_leads;
     }
 
-pub least-pair-requires : goal.least-pair-requires
-least-pair-requires g c =
+pub least_pair-requires : goal.least_pair-requires
+least_pair-requires g c =
     let field = c.args.field.now in
     let f = g.F.Field.means field in
     let w = g.met.F.Field.lawful field in
     let x = length c.args.left.now in
     let y = length c.args.right.now in
-    let ok = accepted g.row.Q c.args.g.now c.args.n _ x y (sym c.in-default.ensures) in
+    let ok = accepted g.row.Q c.args.g.now c.args.n _ x y (sym c.in_default.ensures) in
     record {
       few = omega (arith, ok.long, ok.few);
       room = (omega (arith, ok.long, ok.left_room), omega (arith, ok.long, ok.right_room));
@@ -41,10 +41,10 @@ returns g c =
     let back = to_z-of_z c.ranges.r in
     record {
       answer = (
-        not_refused f w g.row.Q same c.args.g.now c.args.n c.args.r _ back x y c.in-default.ensures,
+        not_refused f w g.row.Q same c.args.g.now c.args.n c.args.r _ back x y c.in_default.ensures,
         at_n f w g.row.Q same c.args.g.now c.args.n c.args.r _ back x y
-            (λ n r. Solved f c.args.g.now n r c.args.left.now c.args.right.now c.least-pair.new.left c.least-pair.new.right c.least-pair.result.0 c.least-pair.result.1 c.least-pair.result.2)
-            c.new.result.plus c.new.result.minus c.new.ensures c.least-pair.ensures (accepted g.row.Q c.args.g.now c.args.n _ x y (sym c.in-default.ensures)),
+            (λ n r. Solved f c.args.g.now n r c.args.left.now c.args.right.now c.least_pair.new.left c.least_pair.new.right c.least_pair.result.0 c.least_pair.result.1 c.least_pair.result.2)
+            c.new.result.plus c.new.result.minus c.new.ensures c.least_pair.ensures (accepted g.row.Q c.args.g.now c.args.n _ x y (sym c.in_default.ensures)),
       );
       only = only_one f w;
       leads = every_pair_leads;

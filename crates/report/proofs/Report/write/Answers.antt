@@ -9,8 +9,8 @@ pub returns : goal.returns
 returns c =
     let r = c.args.self.now in
     let k = c.len-c.result in
-    let ps : c.copy-from-slice.new.self ≡ r.places.items = c.copy-from-slice.ensures.after ∙ c.as-slice.ensures.value in
-    let fs : c.copy-from-slice-2.new.self ≡ r.former.items = c.copy-from-slice-2.ensures.after ∙ c.as-slice-2.ensures.value in
+    let ps : c.copy_from_slice.new.self ≡ r.places.items = c.copy_from_slice.ensures.after ∙ c.as_slice.ensures.value in
+    let fs : c.copy_from_slice-2.new.self ≡ r.former.items = c.copy_from_slice-2.ensures.after ∙ c.as_slice-2.ensures.value in
     let lp : length r.places.items ≡ k = omega arith in
     let lf : length r.former.items ≡ k = omega arith in
     let buf = c.args.out.now in
