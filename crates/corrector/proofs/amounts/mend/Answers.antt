@@ -10,7 +10,7 @@ loop-k-init g c =
     let f = g.F.Field.means field in
     let size : f.q ≡ g.row.Q = g.met.F.Fixed.size field in
     let w = c.args.word.now in
-    subst (Mending f (shape c.args.code.now) c.args.evaluator.now c.args.locator.now c.args.places.now w 0) (sym c.copy-from-slice.ensures.after)
+    subst (Mending f (shape c.args.code.now) c.args.evaluator.now c.args.locator.now c.args.places.now w 0) (sym c.copy_from_slice.ensures.after)
     (mending_none f (shape c.args.code.now) c.args.evaluator.now c.args.locator.now c.args.places.now w c.requires.long (subst (λ (q : ℕ). Within q w) (sym size) c.requires.symbols))
 
 pub loop-k-preserved : goal.loop-k-preserved
@@ -22,11 +22,11 @@ loop-k-preserved g c =
     c.in-Some.x c.loop-k-test.true (c.requires.inside c.loop-k.k-index)
     (subst (λ (q : ℕ). c.in-Some.x < q) (sym size) c.in-Some.ensures.0) c.in-Some.ensures.1
 
-pub returns-in-default : goal.returns-in-default
-returns-in-default g c =
+pub returns-in_default : goal.returns-in_default
+returns-in_default g c =
     let f = g.F.Field.means c.args.field.now in
     mending_stuck f (shape c.args.code.now) c.args.evaluator.now c.args.locator.now c.args.places.now c.args.word.now c.loop-k.out c.loop-k.k-index
-    c.loop-k-test.true (c.requires.inside c.loop-k.k-index) c.in-default.ensures
+    c.loop-k-test.true (c.requires.inside c.loop-k.k-index) c.in_default.ensures
 
 pub returns : goal.returns
 returns g c =

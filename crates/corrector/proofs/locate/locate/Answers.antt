@@ -10,14 +10,14 @@ use Rattle.corrector.proofs.locate.locate.Goals.{then-not-erased-i+else-value-ne
 pub loop-i-init : goal.loop-i-init
 loop-i-init g c = placed_start _ _ _ _
 
-pub overflow-add-wrong : goal.overflow-add-wrong
-overflow-add-wrong g c = omega (arith, c.loop-i.invariant.rare, c.loop-i-test.true, c.requires.few)
+pub overflow_add-wrong : goal.overflow_add-wrong
+overflow_add-wrong g c = omega (arith, c.loop-i.invariant.rare, c.loop-i-test.true, c.requires.few)
 
 pub bounds-places-found : goal.bounds-places-found
 bounds-places-found g c = omega (arith, c.loop-i.invariant.most, c.loop-i.auto.places, c.requires.room, c.loop-i-test.true)
 
-pub overflow-add-found : goal.overflow-add-found
-overflow-add-found g c = omega (arith, c.loop-i.invariant.most, c.loop-i-test.true, c.requires.few)
+pub overflow_add-found : goal.overflow_add-found
+overflow_add-found g c = omega (arith, c.loop-i.invariant.most, c.loop-i-test.true, c.requires.few)
 
 pub loop-i-preserved-then-value-ne0 : goal.loop-i-preserved-then-value-ne0
 loop-i-preserved-then-value-ne0 g c =

@@ -6,11 +6,11 @@ use Rattle.corrector.proofs.Placing.{passing_in}
 use Rattle.corrector.proofs.Deciding.{many, places_are, mended_by}
 use Rattle.corrector.proofs.search.attempt.Goals as goal
 
-pub overflow-mul-wrong : goal.overflow-mul-wrong
-overflow-mul-wrong g c = omega (arith, c.locate-found.ensures.rare, c.requires.marks, c.args.code.now.most)
+pub overflow_mul-wrong : goal.overflow_mul-wrong
+overflow_mul-wrong g c = omega (arith, c.locate-found.ensures.rare, c.requires.marks, c.args.code.now.most)
 
-pub overflow-add-wrong : goal.overflow-add-wrong
-overflow-add-wrong g c = omega (arith, c.locate-found.ensures.rare, c.requires.marks, c.args.code.now.most, c.requires.few)
+pub overflow_add-wrong : goal.overflow_add-wrong
+overflow_add-wrong g c = omega (arith, c.locate-found.ensures.rare, c.requires.marks, c.args.code.now.most, c.requires.few)
 
 less_none : (n : ℕ) → n - 0 ≡ n
 less_none n = omega arith

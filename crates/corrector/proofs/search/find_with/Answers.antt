@@ -35,7 +35,7 @@ returns-then-syndromes g c =
     let w = c.args.word.now in
     let erased = c.args.erased.now in
     let is = erased_is c.erasures-s.result _ sh.n erased c.requires.marks c.erasures-s.ensures in
-    subst (Found f sh erased w true) (sym c.copy-from-slice.ensures.after)
+    subst (Found f sh erased w true) (sym c.copy_from_slice.ensures.after)
     (clean f (g.met.F.Field.lawful field) sh erased w (omega (arith, turn, c.requires.turn)) (subst (λ (q : ℕ). Word q sh.n w) (sym size) c.requires.word)
     (omega (arith, is, c.checks.ensures, c.if-s-checks.false)) (c.syndromes.ensures.passes c.if-syndromes.true))
 

@@ -8,11 +8,11 @@ use Rattle.corrector.specs.SearchSteps.{Attempted}
 use Rattle.corrector.proofs.Deciding.{cut_most, left_in, right_in, repaired, not_refused}
 use Rattle.corrector.proofs.search.repair.Goals as goal
 
-pub slice-bounds-evaluator-end : goal.slice-bounds-evaluator-end
-slice-bounds-evaluator-end g c = let h = cut_most (c.checks.result + 1) c.in-Ok.a c.solve.new.left c.in-Ok.ensures.answer.1.left_counted in search rules
+pub slice_bounds-evaluator-end : goal.slice_bounds-evaluator-end
+slice_bounds-evaluator-end g c = let h = cut_most (c.checks.result + 1) c.in-Ok.a c.solve.new.left c.in-Ok.ensures.answer.1.left_counted in search rules
 
-pub slice-bounds-locator-end : goal.slice-bounds-locator-end
-slice-bounds-locator-end g c = let h = cut_most (c.checks.result + 1) c.in-Ok.b c.solve.new.right c.in-Ok.ensures.answer.1.right_counted in search rules
+pub slice_bounds-locator-end : goal.slice_bounds-locator-end
+slice_bounds-locator-end g c = let h = cut_most (c.checks.result + 1) c.in-Ok.b c.solve.new.right c.in-Ok.ensures.answer.1.right_counted in search rules
 
 less_none : (n : ℕ) → n - 0 ≡ n
 less_none n = omega arith

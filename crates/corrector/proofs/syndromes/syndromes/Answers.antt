@@ -21,7 +21,7 @@ loop-j-preserved g c =
     let x = c.value.result in
     let out = c.loop-j.out in
     let h : j < length out = omega (arith, c.loop-j.auto.out, c.loop-j-test.true) in
-    let is : x ≡ check_sum f sh w j = syndrome_is f l sh w g.row.M c.first-root.result j x turn c.first-root.ensures c.value.ensures in
+    let is : x ≡ check_sum f sh w j = syndrome_is f l sh w g.row.M c.first_root.result j x turn c.first_root.ensures c.value.ensures in
     let S : Bool → Type 0 = λ b. Summing f sh w (suc j) (set out j x) b in
     rw (add-one j) (elim c.if-out-j-ne0.branch [
       | then-out-j-ne0 v ↦ subst S (sym v.clean-is) (summing_other f sh w j out c.loop-j.clean c.loop-j.invariant x h is (λ z. v.if-out-j-ne0.true (get_or-set_same out j x 0 h ∙ z)))
