@@ -1,6 +1,6 @@
 -- Convolution by streams: no subtraction, no sums.
 use mathlib.Core.Path.{◌≡◌, refl, sym, ap, ap₂, ◌∙◌, fun_ext}
-use Prim.Native.Nat.{ℕ, ◌+◌, ◌<◌, ◌≤◌, zero, suc}
+use Prim.Native.Nat.{ℕ, ◌+◌, ◌≤◌, zero, suc}
 use native.Mathlib.Omega.{arith}
 use Rattle.algebra.specs.Field.{Field}
 use Rattle.algebra.specs.Poly as P

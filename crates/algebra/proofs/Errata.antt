@@ -1,15 +1,11 @@
 -- Errata over all positions: a node that is 0 stands for a position where nothing is wrong.
-use mathlib.Core.Path.{◌≡◌, refl, sym, ap, ap₂, ◌∙◌, fun_ext, subst}
-use mathlib.Core.Logic.{◌⊎◌, inl, inr, ⊎_elim}
-use mathlib.Core.List.{List, [], ◌∷◌}
+use mathlib.Core.Path.{◌≡◌, refl, sym, ap, ap₂, ◌∙◌, fun_ext}
+use mathlib.Core.Logic.{◌⊎◌, ⊎_elim}
+use mathlib.Core.List.{[]}
 use Prim.Native.Nat.{ℕ, ◌+◌, ◌<◌, ◌≤◌, zero, suc}
 use native.Mathlib.Omega.{arith}
-use native.Mathlib.Decide.{dec_lt, dec_le, ℕ_discrete}
 use Rattle.algebra.specs.Field.{Field}
-use Rattle.algebra.specs.Lead.{Left, Right}
-use Rattle.algebra.specs.Poly.{In}
 use Rattle.algebra.proofs.Convolution as C
-use Rattle.algebra.proofs.Minimality as M
 use Rattle.algebra.proofs.LeastPair as U
 use Rattle.algebra.proofs.Roots as R
 use Rattle.algebra.proofs.KeyEquation as Q

@@ -1,13 +1,12 @@
 -- The same things, from the last index: what loops meet.
-use mathlib.Core.Path.{◌≡◌, refl, sym, ap, ap₂, ◌∙◌, fun_ext, subst}
-use mathlib.Core.List.{List, [], ◌∷◌}
-use Prim.Native.Nat.{ℕ, ◌+◌, ◌*◌, ◌<◌, ◌≤◌, zero, suc}
+use mathlib.Core.Path.{◌≡◌, refl, sym, ap, ap₂, ◌∙◌}
+use mathlib.Core.List.{[], ◌∷◌}
+use Prim.Native.Nat.{ℕ, ◌+◌, ◌*◌, ◌<◌, zero, suc}
 use native.Mathlib.Omega.{arith}
 use native.Mathlib.Nat.{zero-add, suc-add, mul-zero, mul-suc}
 use Rattle.algebra.specs.Field.{Field}
 use Rattle.algebra.proofs.Convolution as C
 use Rattle.algebra.proofs.Sums as S
-use Rattle.algebra.proofs.LeastPair as U
 use Rattle.algebra.proofs.Roots as R
 use Rattle.algebra.proofs.KeyEquation as Q
 use Rattle.algebra.proofs.Values as W

@@ -1,7 +1,7 @@
-use mathlib.Core.Path.{◌≡◌, refl, sym, ap, ap₂, ◌∙◌, fun_ext}
-use Prim.Native.Nat.{ℕ, ◌+◌, ◌-◌, ◌<◌, ◌≤◌, zero, suc}
+use mathlib.Core.Path.{◌≡◌, refl, sym, ap, ap₂, ◌∙◌}
+use Prim.Native.Nat.{ℕ, ◌+◌, ◌-◌, ◌<◌, zero, suc}
 use native.Mathlib.Omega.{arith}
-use native.Mathlib.Nat.{suc-add, zero-add, suc-sub-suc}
+use native.Mathlib.Nat.{suc-add, zero-add}
 use Rattle.algebra.specs.Field.{Field}
 use Rattle.algebra.proofs.Convolution as C
 use Rattle.algebra.proofs.Convolution.{ac, tl}

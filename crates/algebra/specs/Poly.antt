@@ -1,7 +1,6 @@
 -- Power series and polynomials over a field, by their coefficients.
-use Rattle.std.specs.Prelude.{◌≡◌, ℕ, ◌≤◌, ◌<◌, ◌+◌, zero, suc}
+use Rattle.std.specs.Prelude.{◌≡◌, ℕ, ◌<◌, zero, suc}
 use Rattle.algebra.specs.Field.{Field}
-use Rattle.algebra.specs.Lead.{Left, Right}
 
 module _ {K : Type 0} (F : Field K) where
   open F use {𝟘, 𝟙, ◌⊕◌, ◌⊗◌}

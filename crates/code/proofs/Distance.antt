@@ -1,8 +1,8 @@
 -- Two words with equal check sums that differ in few positions are equal, and what follows for reach and for messages.
-use Rattle.std.proofs.Common.{◌≡◌, ℕ, zero, suc, ◌+◌, ◌*◌, ◌%◌, ◌<◌, ◌≤◌, Bool, true, false, cond, not, ◌&&◌, ◌||◌, eqb, ltb, List, [], ◌∷◌, length, get_or, sym, refl, ap, ◌∙◌, ap₂, add_assoc, mod-lt, mul_comm, zero-add, arith, ext_get_or, le-ltb, lt-ltb, eq-eqb, eqb-true}
+use Rattle.std.proofs.Common.{◌≡◌, ℕ, zero, suc, ◌+◌, ◌*◌, ◌%◌, ◌<◌, ◌≤◌, Bool, true, false, cond, not, ◌&&◌, ◌||◌, eqb, ltb, List, [], ◌∷◌, get_or, sym, refl, ap, ◌∙◌, ap₂, add_assoc, mod-lt, mul_comm, zero-add, arith, ext_get_or, le-ltb, lt-ltb, eq-eqb, eqb-true}
 use Prim.Native.Nat.{Fin}
 use native.Mathlib.Decide.{dec_lt}
-use Rattle.field.specs.Meaning.{Meaning, Laws, pow}
+use Rattle.field.specs.Meaning.{Meaning, Laws}
 use Rattle.field.specs.Symbols.{Within}
 use Rattle.field.specs.Sums.{value}
 use Rattle.field.specs.Lifted.{lift, poly, sym_of}
@@ -18,7 +18,7 @@ use Rattle.algebra.proofs.Division as D
 use Rattle.algebra.proofs.RingSolver as V
 use Rattle.algebra.proofs.RingSolver.{◌:+◌, ◌:−◌, ◌:*◌, ◌:=◌, nil, one, mns, v0}
 use Rattle.code.specs.Shape.{Shape}
-use Rattle.code.specs.Words.{count, every, check_sum, Word, Carries, agrees, astray, marked}
+use Rattle.code.specs.Words.{count, check_sum, Word, Carries, agrees, astray, marked}
 use Rattle.code.specs.Distance.{differ, Distance, OneInReach, OnePerMessage}
 use Rattle.code.proofs.Decided.{every_at, every_from}
 

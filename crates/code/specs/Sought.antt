@@ -1,5 +1,5 @@
 -- The first word that passes a test, among all words of n symbols below q.
-use Rattle.std.specs.Prelude.{◌≡◌, ℕ, zero, suc, ◌<◌, Bool, true, false, cond, List, [], ◌∷◌, Some, None, Option}
+use Rattle.std.specs.Prelude.{◌≡◌, ℕ, zero, suc, Bool, true, false, cond, List, [], ◌∷◌, Some, None, Option}
 use Rattle.code.specs.Words.{Word, first_of}
 
 abbrev pub after : ℕ → Option (List ℕ) → Option (List ℕ)

@@ -1,5 +1,5 @@
 -- From numbers and rows of numbers to symbols and polynomials of the field that a meaning stands for.
-use Rattle.std.proofs.Common.{◌≡◌, ℕ, zero, suc, ◌+◌, ◌-◌, ◌*◌, ◌%◌, ◌<◌, ◌≤◌, List, get_or, sym, refl, ap, ◌∙◌, subst, ap₂, mod-eq_of_lt, suc-mul, zero-mul, arith}
+use Rattle.std.proofs.Common.{◌≡◌, ℕ, zero, suc, ◌-◌, ◌*◌, ◌<◌, List, get_or, sym, ap, ◌∙◌, ap₂, mod-eq_of_lt, suc-mul, zero-mul, arith}
 use Prim.Native.Nat.{Fin}
 use Rattle.field.specs.Meaning.{Meaning, Laws, pow}
 use Rattle.field.specs.Symbols.{Within}

@@ -1,8 +1,8 @@
 -- What the laws give, for generic code. Assumes nothing.
-use Rattle.std.proofs.Common.{◌≡◌, ℕ, zero, suc, ◌+◌, ◌*◌, ◌/◌, ◌%◌, ◌<◌, ◌≤◌, ◌≢◌, List, [], ◌∷◌, length, get_or, drop, sym, refl, ap, ◌∙◌, subst, ap₂, add-zero, mod-lt, suc-add, mul-zero, zero-add, mul-suc, add-one, arith, drop-cons}
+use Rattle.std.proofs.Common.{◌≡◌, ℕ, zero, suc, ◌+◌, ◌*◌, ◌/◌, ◌%◌, ◌<◌, List, get_or, sym, ap, ◌∙◌, subst, ap₂, suc-add, mul-zero, zero-add, mul-suc, add-one, arith}
 use native.Mathlib.Nat.{div-add-mod}
 use Rattle.field.specs.Meaning.{Meaning, Laws, pow}
-use Rattle.field.specs.Sums.{sum_of, weighed}
+use Rattle.field.specs.Sums.{sum_of}
 
 module _ (f : Meaning) (l : Laws f) where
   zero_in : 0 < f.q

@@ -1,6 +1,6 @@
 -- The field of a meaning, on the numbers below q; and how numbers and rows are read in it.
-use Rattle.std.specs.Prelude.{◌≡◌, ℕ, zero, suc, ◌+◌, ◌-◌, ◌*◌, ◌%◌, ◌<◌, ◌≤◌, ◌≢◌, List, [], ◌∷◌, length, slice_index, refl}
-use Rattle.std.proofs.Common.{sym, ap, ap₂, ◌∙◌, mod-lt, mod-eq_of_lt, arith}
+use Rattle.std.specs.Prelude.{◌≡◌, ℕ, ◌%◌, ◌≢◌, List, slice_index}
+use Rattle.std.proofs.Common.{ap, ◌∙◌, mod-lt, mod-eq_of_lt, arith}
 use Prim.Native.Nat.{Fin}
 use Rattle.std.proofs.Math.Decide.{Fin-discrete}
 use Rattle.algebra.specs.Field.{Field}

@@ -1,4 +1,4 @@
-use Rattle.std.proofs.Common.{ℕ, sym, refl, ap, ◌∙◌, ⊎_elim, arith, lit<}
+use Rattle.std.proofs.Common.{sym, refl, ap, ◌∙◌, ⊎_elim, arith, lit<}
 use Rattle.field.specs.Meaning.{pow}
 use Rattle.field.proofs.Powers.{pow_in, pow_add}
 use Rattle.f256.specs.Bytes.{bytes}

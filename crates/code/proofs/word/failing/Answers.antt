@@ -1,4 +1,4 @@
-use Rattle.std.proofs.Common.{◌≡◌, ℕ, ◌+◌, ◌*◌, ◌%◌, ◌<◌, Bool, true, false, not, eqb, length, get_or, sym, refl, ap, ◌∙◌, subst, arith, eq-eqb, ne_eqb}
+use Rattle.std.proofs.Common.{◌≡◌, ℕ, ◌+◌, ◌*◌, ◌%◌, ◌<◌, not, eqb, length, get_or, sym, ap, ◌∙◌, subst, arith, eq-eqb, ne_eqb}
 use Rattle.field.specs.Meaning.{pow}
 use Rattle.field.specs.Sums.{sum_of}
 use Rattle.field.proofs.Powers.{weighed_more}

@@ -1,4 +1,4 @@
-use Rattle.std.proofs.Common.{◌≡◌, ℕ, ◌*◌, ◌<◌, cond, not, eqb, get_or, None, Option}
+use Rattle.std.proofs.Common.{◌≡◌, ◌*◌, ◌<◌, not, eqb, get_or, None}
 use Rattle.field.specs.Meaning.{pow}
 use Rattle.field.specs.Sums.{sum_of}
 use Rattle.code.specs.Shape.{shape}

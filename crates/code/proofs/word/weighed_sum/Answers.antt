@@ -1,5 +1,5 @@
-use Rattle.std.proofs.Common.{◌≡◌, ℕ, zero, suc, ◌*◌, ◌%◌, ◌<◌, ◌≤◌, length, get_or, sym, refl, ap, ◌∙◌, subst, ap₂, add-one, arith, rules}
-use Rattle.field.specs.Meaning.{Meaning, Laws, pow}
+use Rattle.std.proofs.Common.{◌≡◌, ℕ, ◌*◌, ◌%◌, ◌<◌, length, get_or, sym, refl, ap, ◌∙◌, subst, arith}
+use Rattle.field.specs.Meaning.{pow}
 use Rattle.field.specs.Sums.{sum_of}
 use Rattle.field.proofs.Powers.{weighed_more}
 use Rattle.field.proofs.Symbols.{symbol_at}

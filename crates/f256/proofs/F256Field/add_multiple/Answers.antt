@@ -1,4 +1,4 @@
-use Rattle.std.proofs.Common.{◌≡◌, ℕ, get_or, sym, refl, ap, ◌∙◌, ⊎_elim, arith}
+use Rattle.std.proofs.Common.{ℕ, get_or, sym, refl, ap, ◌∙◌, ⊎_elim, arith}
 use Rattle.f256.specs.Bytes.{bytes}
 use Rattle.f256.specs.BytesLemmas.{bytes_laws, zero_left}
 use Rattle.f256.proofs.F256Field.add_multiple.Goals as goal
