@@ -1,6 +1,5 @@
 -- What a division by the generator keeps: at each root, the value of the row.
 use Rattle.std.proofs.Common.{◌≡◌, ℕ, suc, ◌+◌, ◌-◌, ◌<◌, ◌≤◌, List, length, get_or, take, drop, sym, refl, ap, ◌∙◌, subst, ap₂, arith, length-drop, get_or-drop, get_or-take}
-use Prim.Native.Nat.{Fin}
 use native.Mathlib.Decide.{dec_lt}
 use borrow.Rule.Slice.PartMut.{put_mid}
 use Rattle.field.specs.Meaning.{Meaning, Laws}
@@ -10,8 +9,6 @@ use Rattle.field.specs.Rows.{Added}
 use Rattle.field.specs.Lifted.{lift, poly, sym_of}
 use Rattle.field.proofs.Parts.{cut, put_low, put_middle, put_high}
 use Rattle.field.proofs.Lifting as B
-use Rattle.algebra.specs.Field.{Field}
-use Rattle.algebra.proofs.Roots as R
 use Rattle.algebra.proofs.Division as D
 use Rattle.encoder.specs.Register.{Generates, Divided}
 

@@ -1,11 +1,9 @@
 -- What a corrector tries, and what it then knows.
-use Rattle.std.specs.Prelude.{◌≡◌, ℕ, ◌+◌, ◌*◌, ◌<◌, ◌≤◌, Bool, true, false, cond, not, ◌&&◌, ◌≢◌, List, ℤ, slice_index, slice_index_or}
-use Rattle.field.specs.Meaning.{Meaning, Laws}
+use Rattle.std.specs.Prelude.{◌≡◌, ℕ, ◌+◌, ◌*◌, ◌<◌, ◌≤◌, Bool, true, false, cond, not, ◌&&◌, ◌≢◌, List, slice_index, slice_index_or}
+use Rattle.field.specs.Meaning.{Meaning}
 use Rattle.code.specs.Shape.{Shape}
-use Rattle.code.specs.Words.{count, Word, InReach, Near, marked}
-use Rattle.solver.specs.Pairs.{Term}
+use Rattle.code.specs.Words.{count, Word, marked}
 use Rattle.errata.specs.Pieces.{root, places_of, among, divisor, mended}
-use Rattle.errata.specs.Pinned.{Sighted}
 
 -- how many wrong positions the locator B shows
 abbrev pub shown : Meaning → Shape → List Bool → List ℕ → ℕ

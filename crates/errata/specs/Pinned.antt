@@ -1,9 +1,9 @@
 -- What the least pair of the modified syndromes says of a codeword in reach.
-use Rattle.std.specs.Prelude.{◌≡◌, ℕ, ◌<◌, ◌≤◌, Bool, true, false, not, ◌≢◌, List, get_or, ℤ, pos, ◌+ℤ◌, ◌==◌, slice_index, slice_index_or}
-use Rattle.field.specs.Meaning.{Meaning, Laws}
+use Rattle.std.specs.Prelude.{◌≡◌, ℕ, ◌<◌, Bool, true, false, not, ◌≢◌, List, get_or, ℤ, pos, ◌+ℤ◌, ◌==◌, slice_index, slice_index_or}
+use Rattle.field.specs.Meaning.{Meaning}
 use Rattle.field.specs.Symbols.{Symbols}
 use Rattle.code.specs.Shape.{Shape}
-use Rattle.code.specs.Words.{Word, Near, astray, marked, check_sum}
+use Rattle.code.specs.Words.{astray, marked, check_sum}
 use Rattle.solver.specs.Pairs.{Term, right, Least}
 use Rattle.errata.specs.Pieces.{modified, root, located, places_of, divisor, mended}
 

@@ -1,5 +1,5 @@
 -- One turn of each loop over a row.
-use Rattle.std.proofs.Common.{◌≡◌, ℕ, zero, suc, ◌-◌, ◌<◌, ◌≤◌, List, length, get_or, take, set, sym, ap, ◌∙◌, subst, arith, get_or-set_other, get_or-take, get_or-set_same}
+use Rattle.std.proofs.Common.{◌≡◌, ℕ, zero, suc, ◌-◌, ◌<◌, ◌≤◌, List, length, get_or, take, set, sym, ap, ◌∙◌, arith, get_or-set_other, get_or-take, get_or-set_same}
 use native.Mathlib.Decide.{ℕ_discrete}
 use Rattle.algebra.proofs.Convolution as C
 use Rattle.field.specs.Meaning.{Meaning, Laws}

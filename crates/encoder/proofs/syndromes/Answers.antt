@@ -1,4 +1,4 @@
-use Rattle.std.proofs.Common.{◌≡◌, ℕ, ◌-◌, ◌∙◌, arith, rules}
+use Rattle.std.proofs.Common.{◌≡◌, ◌-◌, ◌∙◌, arith, rules}
 use Rattle.std.proofs.lemmas.List.{get_or_append_left}
 use Rattle.field.proofs.Parts.{put_high}
 use Rattle.code.specs.Shape.{shape}

@@ -1,4 +1,4 @@
-use Rattle.std.proofs.Common.{◌≡◌, ℕ, ◌-◌, ◌≤◌, true, List, length, take, sym, refl, ap, ◌∙◌, subst, arith}
+use Rattle.std.proofs.Common.{◌≡◌, ℕ, ◌-◌, true, List, length, take, sym, refl, ◌∙◌, subst, arith}
 use Rattle.field.specs.Symbols.{all_below, Within}
 use Rattle.field.proofs.Symbols.{within_from}
 use Rattle.code.specs.Shape.{shape}

@@ -1,4 +1,4 @@
-use Rattle.std.proofs.Common.{◌≡◌, ℕ, suc, ◌+◌, ◌-◌, ◌%◌, ◌<◌, ◌≤◌, set, sym, ap, ◌∙◌, subst, mod-lt, add-one, arith}
+use Rattle.std.proofs.Common.{◌≡◌, ℕ, suc, ◌%◌, ◌<◌, set, sym, ap, subst, mod-lt, add-one, arith}
 use Rattle.evaluation.proofs.Powering.{Powering, powering_none, powering_ahead, powering_round}
 use Rattle.evaluation.proofs.powers.Goals as goal
 use Rattle.evaluation.proofs.powers.Goals.{then-e, else-e}

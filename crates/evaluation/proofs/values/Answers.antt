@@ -1,4 +1,4 @@
-use Rattle.std.proofs.Common.{◌≡◌, ℕ, suc, ◌-◌, sym, subst, arith}
+use Rattle.std.proofs.Common.{◌≡◌, suc, ◌-◌, subst, arith}
 use Rattle.evaluation.proofs.Valuing.{Valuing, valuing_none, valuing_more, valuing_all}
 use Rattle.evaluation.proofs.values.Goals as goal
 

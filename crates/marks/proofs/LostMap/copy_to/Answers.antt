@@ -1,4 +1,4 @@
-use Rattle.std.proofs.Common.{◌≡◌, length, sym, ◌∙◌, ap₂, eq-eqb}
+use Rattle.std.proofs.Common.{sym, ◌∙◌, ap₂, eq-eqb}
 use Rattle.marks.specs.Held.{flags}
 use Rattle.marks.specs.Marks.{marks}
 use Rattle.marks.proofs.LostMap.copy_to.Goals as goal

@@ -1,4 +1,4 @@
-use Rattle.std.proofs.Common.{◌≡◌, ◌<◌, false, ◌≢◌, length, get_or, sym, ◌∙◌, arith, get_or-set_other, get_or-set_same, ext_get_or, below_more}
+use Rattle.std.proofs.Common.{false, ◌≢◌, length, sym, ◌∙◌, arith, get_or-set_other, get_or-set_same, ext_get_or, below_more}
 use Rattle.marks.proofs.Reading.{length_marks, mark_at}
 use Rattle.marks.proofs.bytes.write_marks.Goals as goal
 
