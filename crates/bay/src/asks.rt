@@ -69,8 +69,8 @@ impl<F: Fixed<Q, M>, const Q: u32, const M: u32> Bay<F, Q, M> {
     pub fn message<'a>(&self, buf: &'a [u32]) -> Result<&'a [u32], Refusal>
         ensures place { MatchResult result (λ s. placing (held self.now) buf.now ≡ Ok (given (held self.now).code 0 (λ c. c.checks), length s.now)) (λ e. placing (held self.now) buf.now ≡ Err (number e)) }
         ensures value { IfOk result (λ s. s.now ≡ take (length s.now) (drop (given (held self.now).code 0 (λ c. c.checks)) buf.now)) }
-        ensures block { IfOk result (λ s. s.ptr.0 ≡ buf.entry.ref_ptr.0) }
-        ensures start { IfOk result (λ s. s.ptr.1 ≡ buf.entry.ref_ptr.1 + given (held self.now).code 0 (λ c. c.checks) * 4) }
+        ensures block { IfOk result (λ s. s.ref_ptr.0 ≡ buf.entry.ref_ptr.0) }
+        ensures start { IfOk result (λ s. s.ref_ptr.1 ≡ buf.entry.ref_ptr.1 + given (held self.now).code 0 (λ c. c.checks) * 4) }
     {
         let Some(code) = self.code else {
             return Err(Refusal::NoCode);

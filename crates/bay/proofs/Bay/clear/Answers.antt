@@ -7,16 +7,16 @@ use Rattle.bay.proofs.Holding.{done_with}
 use Rattle.bay.proofs.Rows.{clear_none, clear_done}
 use Rattle.bay.proofs.Bay.clear.Goals as goal
 
-pub returns-in-default : goal.returns-in-default
-returns-in-default g c = record { does = clear_none (held c.args.self.now) (ap shaped c.in-default.is); same = refl }
+pub returns-in_default : goal.returns-in_default
+returns-in_default g c = record { does = clear_none (held c.args.self.now) (ap shaped c.in_default.is); same = refl }
 
-pub invariant-of-self : goal.invariant-of-self
-invariant-of-self g c =
+pub invariant_of-self : goal.invariant_of-self
+invariant_of-self g c =
     let s = c.args.self.now in
     let few : c.n-positions.result ≤ 928 = subst (λ (k : ℕ). k ≤ 928) (sym c.n-positions.ensures) c.in-Some.code.most in
     let blank : c.blank.result ≡ true = c.blank.ensures.value ∙ le-leb c.n-positions.result 928 few in
     let wide : c.blank.new.self.n ≡ c.n-positions.result = c.blank.ensures.span ∙ ap (λ (b : Bool). cond b c.n-positions.result s.lost.n) blank in
-    (s.fits, (s.starts, (s.long, (s.symbols, (wide ∙ c.n-positions.ensures ∙ sym (ap width c.in-Some.is), (s.room, tt))))))
+    record { fits = s.fits; starts = s.starts; long = s.long; symbols = s.symbols; wide = wide ∙ c.n-positions.ensures ∙ sym (ap width c.in-Some.is); room = s.room }
 
 pub returns : goal.returns
 returns g c =

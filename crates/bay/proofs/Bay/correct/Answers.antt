@@ -7,11 +7,11 @@ use Rattle.bay.proofs.Rows.{correct_none}
 use Rattle.bay.proofs.Correcting.{both}
 use Rattle.bay.proofs.Bay.correct.Goals as goal
 
-pub returns-in-default : goal.returns-in-default
-returns-in-default g c =
+pub returns-in_default : goal.returns-in_default
+returns-in_default g c =
     let s = c.args.self.now in
     let f = g.F.Field.means s.field in
-    let does = correct_none f (held s) (ap shaped c.in-default.is) in
+    let does = correct_none f (held s) (ap shaped c.in_default.is) in
     let turn = sym (g.met.F.Fixed.turn s.field) in
     let r = both f (held s) (g.met.F.Field.lawful s.field) (λ d e. subst (λ (k : ℕ). d.n ≤ k) turn (code_in g.row.M s.code s.fits d e)) (Err 5) (held s) does in
     record { does = does; refuses = r.0; corrects = r.1; same = refl }

@@ -16,37 +16,37 @@ use Rattle.bay.proofs.Encoding.{is_encoded}
 use Rattle.bay.proofs.RoundTrip.{restored}
 use Rattle.bay.proofs.Bay.encode.Goals as goal
 
-pub returns-in-default : goal.returns-in-default
-returns-in-default g c =
+pub returns-in_default : goal.returns-in_default
+returns-in_default g c =
     let s = c.args.self.now in
-    record { does = encode_none (g.F.Field.means s.field) (held s) (ap shaped c.in-default.is); encodes = λ d e. absurd (never_coded s.code d c.in-default.is e); comes_back = λ o. let z : ◌≡◌ {A = ℕ} 0 1 = cc in absurd (omega arith); same = refl }
+    record { does = encode_none (g.F.Field.means s.field) (held s) (ap shaped c.in_default.is); encodes = λ d e. absurd (never_coded s.code d c.in_default.is e); comes_back = λ o. let z : ◌≡◌ {A = ℕ} 0 1 = cc in absurd (omega arith); same = refl }
 
-pub invariant-of-self : goal.invariant-of-self
-invariant-of-self g c =
-    let s = c.args.self.now in
-    let f = g.F.Field.means s.field in
-    let kept = fits_kept f g.row.Q g.row.M s.code c.in-Some.code s.word.items (g.met.F.Fixed.size s.field) (g.met.F.Fixed.turn s.field) c.in-Some.is s.fits s.starts (sym s.word.ok.0 ∙ s.long) s.symbols in
-    let P : List ℕ → Type 0 = Fits f (shape c.in-Some.code) in
-    absurd (never_refused f (shape c.in-Some.code) c.as-mut-slice.result.now (subst P (sym c.as-mut-slice.ensures.value) kept) tt _ c.in-err-encode.ensures.answer)
-
-pub returns-in-err-encode : goal.returns-in-err-encode
-returns-in-err-encode g c =
+pub invariant_of-self : goal.invariant_of-self
+invariant_of-self g c =
     let s = c.args.self.now in
     let f = g.F.Field.means s.field in
     let kept = fits_kept f g.row.Q g.row.M s.code c.in-Some.code s.word.items (g.met.F.Fixed.size s.field) (g.met.F.Fixed.turn s.field) c.in-Some.is s.fits s.starts (sym s.word.ok.0 ∙ s.long) s.symbols in
     let P : List ℕ → Type 0 = Fits f (shape c.in-Some.code) in
-    absurd (never_refused f (shape c.in-Some.code) c.as-mut-slice.result.now (subst P (sym c.as-mut-slice.ensures.value) kept) tt _ c.in-err-encode.ensures.answer)
+    absurd (never_refused f (shape c.in-Some.code) c.as_mut_slice.result.now (subst P (sym c.as_mut_slice.ensures.value) kept) tt _ c.in_err-encode.ensures.answer)
 
-pub invariant-of-self-2 : goal.invariant-of-self-2
-invariant-of-self-2 g c =
+pub returns-in_err-encode : goal.returns-in_err-encode
+returns-in_err-encode g c =
+    let s = c.args.self.now in
+    let f = g.F.Field.means s.field in
+    let kept = fits_kept f g.row.Q g.row.M s.code c.in-Some.code s.word.items (g.met.F.Fixed.size s.field) (g.met.F.Fixed.turn s.field) c.in-Some.is s.fits s.starts (sym s.word.ok.0 ∙ s.long) s.symbols in
+    let P : List ℕ → Type 0 = Fits f (shape c.in-Some.code) in
+    absurd (never_refused f (shape c.in-Some.code) c.as_mut_slice.result.now (subst P (sym c.as_mut_slice.ensures.value) kept) tt _ c.in_err-encode.ensures.answer)
+
+pub invariant_of-self-2 : goal.invariant_of-self-2
+invariant_of-self-2 g c =
     let s = c.args.self.now in
     let new = c.encode.new.word in
-    let back : (with_items s.word new).items ≡ new = with_items_is s.word new (c.encode.auto.word ∙ c.as-mut-slice.ensures.len) in
-    let symbols = (c.in-ok-encode.ensures.encodes refl).carries.word.symbols in
+    let back : (with_items s.word new).items ≡ new = with_items_is s.word new (c.encode.auto.word ∙ c.as_mut_slice.ensures.len) in
+    let symbols = (c.in_ok-encode.ensures.encodes refl).carries.word.symbols in
     let few : c.n.result ≤ 928 = subst (λ (k : ℕ). k ≤ 928) (sym c.n.ensures) c.in-Some.code.most in
     let blank : c.blank.result ≡ true = c.blank.ensures.value ∙ le-leb c.n.result 928 few in
     let wide : c.blank.new.self.n ≡ c.n.result = c.blank.ensures.span ∙ ap (λ (b : Bool). cond b c.n.result s.lost.n) blank in
-    (s.fits, (s.starts, (s.long, (ap (all_below g.row.Q) back ∙ ap (λ (q : ℕ). all_below q new) (sym (g.met.F.Fixed.size s.field)) ∙ symbols, (wide ∙ c.n.ensures ∙ sym (ap width c.in-Some.is), (s.room, tt))))))
+    record { fits = s.fits; starts = s.starts; long = s.long; symbols = ap (all_below g.row.Q) back ∙ ap (λ (q : ℕ). all_below q new) (sym (g.met.F.Fixed.size s.field)) ∙ symbols; wide = wide ∙ c.n.ensures ∙ sym (ap width c.in-Some.is); room = s.room }
 
 pub returns : goal.returns
 returns g c =
@@ -54,13 +54,13 @@ returns g c =
     let f = g.F.Field.means s.field in
     let d = shape c.in-Some.code in
     let new = c.encode.new.word in
-    let back : (with_items s.word new).items ≡ new = with_items_is s.word new (c.encode.auto.word ∙ c.as-mut-slice.ensures.len) in
+    let back : (with_items s.word new).items ≡ new = with_items_is s.word new (c.encode.auto.word ∙ c.as_mut_slice.ensures.len) in
     let kept = fits_kept f g.row.Q g.row.M s.code c.in-Some.code s.word.items (g.met.F.Fixed.size s.field) (g.met.F.Fixed.turn s.field) c.in-Some.is s.fits s.starts (sym s.word.ok.0 ∙ s.long) s.symbols in
     let few : c.n.result ≤ 928 = subst (λ (k : ℕ). k ≤ 928) (sym c.n.ensures) c.in-Some.code.most in
     let blank : c.blank.result ≡ true = c.blank.ensures.value ∙ le-leb c.n.result 928 few in
     let none : flags c.blank.new.self ≡ replicate d.n false = c.blank.ensures.flags ∙ ap (λ (b : Bool). cond b (replicate c.n.result false) (flags s.lost)) blank ∙ ap (λ (k : ℕ). replicate k false) c.n.ensures in
     let E : List ℕ → Type 0 = λ w. Encodes f d w new in
-    let encodes : Encodes f d s.word.items new = subst E c.as-mut-slice.ensures.value (c.in-ok-encode.ensures.encodes refl) in
+    let encodes : Encodes f d s.word.items new = subst E c.as_mut_slice.ensures.value (c.in_ok-encode.ensures.encodes refl) in
     let F : Shape → Type 0 = λ x. Encodes f x s.word.items (with_items s.word new).items in
     let left : F d = let G : List ℕ → Type 0 = λ v. Encodes f d s.word.items v in subst G (sym back) encodes in
     record {

@@ -9,10 +9,10 @@ use Rattle.bay.proofs.Holding.{done_with}
 use Rattle.bay.proofs.Rows.{load_none, load_count, load_map, load_symbol, load_done}
 use Rattle.bay.proofs.Bay.load.Goals as goal
 
-pub returns-in-default : goal.returns-in-default
-returns-in-default g c =
+pub returns-in_default : goal.returns-in_default
+returns-in_default g c =
     let s = c.args.self.now in
-    record { does = load_none (g.F.Field.means s.field) (held s) c.args.word.now c.args.map.now (ap shaped c.in-default.is); same = refl }
+    record { does = load_none (g.F.Field.means s.field) (held s) c.args.word.now c.args.map.now (ap shaped c.in_default.is); same = refl }
 
 pub returns-then-word-n : goal.returns-then-word-n
 returns-then-word-n g c =
@@ -32,15 +32,15 @@ returns-then-not-takes g c =
       same = refl;
     }
 
-pub returns-then-not-is-below : goal.returns-then-not-is-below
-returns-then-not-is-below g c =
+pub returns-then-not-is_below : goal.returns-then-not-is_below
+returns-then-not-is_below g c =
     let s = c.args.self.now in
     let map = c.args.map.now in
     let w = c.args.word.now in
     let wide : span s.lost ≡ c.in-Some.code.n = s.wide ∙ ap width c.in-Some.is in
     record {
       does = load_symbol (g.F.Field.means s.field) (held s) w map (shape c.in-Some.code) (ap shaped c.in-Some.is) (c.if-word-n.false ∙ c.n.ensures) (c.if-not-takes.ensures ∙ ap (λ (k : ℕ). tidy k map) wide)
-          (c.if-not-is-below.ensures ∙ ap (λ (q : ℕ). all_below q w) (sym (g.met.F.Fixed.size s.field)));
+          (c.if-not-is_below.ensures ∙ ap (λ (q : ℕ). all_below q w) (sym (g.met.F.Fixed.size s.field)));
       same = refl;
     }
 
@@ -49,11 +49,11 @@ overwrite-requires g c =
     let s = c.args.self.now in
     c.if-word-n.false ∙ c.n.ensures ∙ sym (s.long ∙ ap width c.in-Some.is)
 
-pub invariant-of-self : goal.invariant-of-self
-invariant-of-self g c =
+pub invariant_of-self : goal.invariant_of-self
+invariant_of-self g c =
     let s = c.args.self.now in
-    let symbols : all_below g.row.Q c.overwrite.new.word.items ≡ true = ap (all_below g.row.Q) c.overwrite.ensures.items ∙ sym c.if-not-is-below.ensures in
-    (s.fits, (s.starts, (c.overwrite.ensures.len ∙ s.long, (symbols, (c.fill.ensures.span ∙ s.wide, (subst (λ (k : ℕ). 928 ≤ k) (sym c.overwrite.ensures.capacity) s.room, tt))))))
+    let symbols : all_below g.row.Q c.overwrite.new.word.items ≡ true = ap (all_below g.row.Q) c.overwrite.ensures.items ∙ sym c.if-not-is_below.ensures in
+    record { fits = s.fits; starts = s.starts; long = c.overwrite.ensures.len ∙ s.long; symbols = symbols; wide = c.fill.ensures.span ∙ s.wide; room = subst (λ (k : ℕ). 928 ≤ k) (sym c.overwrite.ensures.capacity) s.room }
 
 pub returns : goal.returns
 returns g c =
@@ -67,6 +67,6 @@ returns g c =
     record {
       does = done_with refl c.overwrite.ensures.items new c.clear.ensures
           ∙ load_done (g.F.Field.means s.field) (held s) w map (shape c.in-Some.code) (ap shaped c.in-Some.is) (c.if-word-n.false ∙ c.n.ensures) (c.if-not-takes.ensures ∙ ap (λ (k : ℕ). tidy k map) wide)
-          (c.if-not-is-below.ensures ∙ ap (λ (q : ℕ). all_below q w) (sym (g.met.F.Fixed.size s.field)));
+          (c.if-not-is_below.ensures ∙ ap (λ (q : ℕ). all_below q w) (sym (g.met.F.Fixed.size s.field)));
       same = refl;
     }

@@ -7,10 +7,10 @@ use Rattle.bay.proofs.Holding.{done_with}
 use Rattle.bay.proofs.Rows.{put_none, put_place, put_symbol, put_done}
 use Rattle.bay.proofs.Bay.put.Goals as goal
 
-pub returns-in-default : goal.returns-in-default
-returns-in-default g c =
+pub returns-in_default : goal.returns-in_default
+returns-in_default g c =
     let s = c.args.self.now in
-    record { does = put_none (g.F.Field.means s.field) (held s) c.args.pos c.args.sym (ap shaped c.in-default.is); same = refl }
+    record { does = put_none (g.F.Field.means s.field) (held s) c.args.pos c.args.sym (ap shaped c.in_default.is); same = refl }
 
 pub returns-then-pos-n : goal.returns-then-pos-n
 returns-then-pos-n g c =
@@ -26,16 +26,16 @@ returns-then-sym g c =
     let past : f.q ≤ c.args.sym = subst (λ (k : ℕ). k ≤ c.args.sym) (sym (g.met.F.Fixed.size s.field)) c.if-sym.true in
     record { does = put_symbol f (held s) c.args.pos c.args.sym (shape c.in-Some.code) (ap shaped c.in-Some.is) h past; same = refl }
 
-pub index-mut-requires : goal.index-mut-requires
-index-mut-requires g c =
+pub index_mut-requires : goal.index_mut-requires
+index_mut-requires g c =
     let s = c.args.self.now in
     let h : c.args.pos < c.in-Some.code.n = subst (λ (k : ℕ). c.args.pos < k) c.n.ensures c.if-pos-n.false in
     subst (λ (k : ℕ). c.args.pos < k) (sym (s.long ∙ ap width c.in-Some.is)) h
 
-pub invariant-of-self : goal.invariant-of-self
-invariant-of-self g c =
+pub invariant_of-self : goal.invariant_of-self
+invariant_of-self g c =
     let s = c.args.self.now in
-    (s.fits, (s.starts, (s.long, (below_set g.row.Q s.word.items c.args.pos c.args.sym s.symbols c.if-sym.false, (c.unset.ensures.span ∙ s.wide, (s.room, tt))))))
+    record { fits = s.fits; starts = s.starts; long = s.long; symbols = below_set g.row.Q s.word.items c.args.pos c.args.sym s.symbols c.if-sym.false; wide = c.unset.ensures.span ∙ s.wide; room = s.room }
 
 pub returns : goal.returns
 returns g c =

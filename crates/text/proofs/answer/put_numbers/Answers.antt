@@ -14,7 +14,7 @@ loop-x-preserved g c plain =
     let xs = c.args.numbers.now in
     let i = c.loop-x.x-index in
     let before = c.loop-x.invariant plain in
-    let here = c.in_ok-write.ensures.shows before.plain refl in
+    let here = c.in_ok-write.ensures.writes before.plain refl in
     let one = flat_map_more spaced [] (take i xs) (get_or xs i 0) ∙ ap (λ (l : List ℕ). flat_map spaced l) (sym (take_more xs i 0 c.loop-x-test.true)) in
     has_written_of_eq _ _ _ _ _ one (has_written_append _ _ _ _ _ _ before here)
 
