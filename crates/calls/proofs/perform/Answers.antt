@@ -13,7 +13,7 @@ returns g c = let p = held c.args.bay.now in elim c.match-line.branch [
     same = simp w.bay-is w.make.ensures.same;
   }
   | goal.in-Load w ↦ record {
-    does = simp (w.line-is, w.line2-is, w.bay-is, w.in-Load.is, w.answered-line-in-Load.ensures, ← w.as-slice.ensures.value, ← w.as-slice-in-Load.ensures.value) (ap (changing (load w.as-slice.result.now w.as-slice-in-Load.result.now)) w.load.ensures.does);
+    does = simp (w.line-is, w.line2-is, w.bay-is, w.in-Load.is, w.answered-line-in-Load.ensures, ← w.as_slice.ensures.value, ← w.as_slice-in-Load.ensures.value) (ap (changing (load w.as_slice.result.now w.as_slice-in-Load.result.now)) w.load.ensures.does);
     same = simp w.bay-is w.load.ensures.same;
   }
   | goal.in-Put w ↦ record {
@@ -37,25 +37,25 @@ returns g c = let p = held c.args.bay.now in elim c.match-line.branch [
     same = simp w.bay-is w.correct.ensures.same;
   }
   | goal.in-Test w ↦ record {
-    does = simp (w.line-is, w.line2-is, w.bay-is, w.in-Test.is) (ap (asking test p) w.ask-test-line.ensures);
+    does = simp (w.line-is, w.line2-is, w.bay-is, w.in-Test.is) (ap (asking test p) w.ask_test-line.ensures);
     same = simp w.bay-is;
   }
   | goal.in-Read w ↦
-      let long : length w.read.new.out ≡ w.in-Read.out.len = w.read.auto.out ∙ w.as-mut-slice.ensures.len in
+      let long : length w.read.new.out ≡ w.in-Read.out.len = w.read.auto.out ∙ w.as_mut_slice.ensures.len in
       let back = with_items_is w.in-Read.out w.read.new.out long in
       record {
-        does = simp (w.line-is, w.line2-is, w.bay-is, w.in-Read.is, w.answered-line-in-Read.ensures) (ap (λ (l : List ℕ). writing read p (numbered w.read.result, l)) back ∙ ap (writing read p) w.read.ensures ∙ ap (λ (l : List ℕ). writing read p (reading p l)) w.as-mut-slice.ensures.value);
+        does = simp (w.line-is, w.line2-is, w.bay-is, w.in-Read.is, w.answered-line-in-Read.ensures) (ap (λ (l : List ℕ). writing read p (numbered w.read.result, l)) back ∙ ap (writing read p) w.read.ensures ∙ ap (λ (l : List ℕ). writing read p (reading p l)) w.as_mut_slice.ensures.value);
         same = simp w.bay-is;
       }
   | goal.in-Report w ↦
-      let long : length w.report.new.out ≡ w.in-Report.out.len = w.report.auto.out ∙ w.as-mut-slice-in-Report.ensures.len in
+      let long : length w.report.new.out ≡ w.in-Report.out.len = w.report.auto.out ∙ w.as_mut_slice-in-Report.ensures.len in
       let back = with_items_is w.in-Report.out w.report.new.out long in
       record {
-        does = simp (w.line-is, w.line2-is, w.bay-is, w.in-Report.is, w.answered-line-in-Report.ensures) (ap (λ (l : List ℕ). writing report p (numbered w.report.result, l)) back ∙ ap (writing report p) w.report.ensures ∙ ap (λ (l : List ℕ). writing report p (reporting p l)) w.as-mut-slice-in-Report.ensures.value);
+        does = simp (w.line-is, w.line2-is, w.bay-is, w.in-Report.is, w.answered-line-in-Report.ensures) (ap (λ (l : List ℕ). writing report p (numbered w.report.result, l)) back ∙ ap (writing report p) w.report.ensures ∙ ap (λ (l : List ℕ). writing report p (reporting p l)) w.as_mut_slice-in-Report.ensures.value);
         same = simp w.bay-is;
       }
   | goal.in-Message w ↦ record {
-    does = simp (w.line-is, w.line2-is, w.bay-is, w.in-Message.is) (ap (asking (message w.in-Message.buf.items) p) (w.ask-message-line.ensures ∙ ap (λ (l : List ℕ). placed (placing p l)) w.as-slice-in-Message.ensures.value));
+    does = simp (w.line-is, w.line2-is, w.bay-is, w.in-Message.is) (ap (asking (message w.in-Message.buf.items) p) (w.ask_message-line.ensures ∙ ap (λ (l : List ℕ). placed (placing p l)) w.as_slice-in-Message.ensures.value));
     same = simp w.bay-is;
   }
 ]
