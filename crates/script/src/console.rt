@@ -7,7 +7,7 @@ macro_rules! converse {
         let heap = $rt.alloc();
         let mut desk = $crate::desk::Desk::Waiting;
         let mut line = $crate::buffer::LineBuffer::new(heap)?;
-        for byte in std::io::BufReader::new($rt.stdin()).bytes() {
+        for byte in std::io::BufReader::new(heap, $rt.stdin())?.bytes() {
             let byte = byte?;
             let answered = line.is_over();
             let ended = byte == b'\n';

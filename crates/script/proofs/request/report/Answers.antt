@@ -4,4 +4,4 @@ use Rattle.script.specs.Requests.{with_none}
 use Rattle.script.proofs.request.report.Goals as goal
 
 pub returns : goal.returns
-returns c = let h = c.in-ok-buffer.ensures.items-if-clones-equal in c.alone.ensures ∙ ap (λ (l : List ℕ). with_none (report l) c.args.numbers.now) (search rules)
+returns c = let h = c.in_ok-buffer.ensures.items_if_clones_equal in c.alone.ensures ∙ ap (λ (l : List ℕ). with_none (report l) c.args.numbers.now) (search rules)

@@ -7,7 +7,7 @@ pub returns-then-len-le-LONGEST : goal.returns-then-len-le-LONGEST
 returns-then-len-le-LONGEST c =
     let s = c.args.self.now in
     let few : length (kept s ++ (c.args.byte ∷ [])) ≤ 6001 = omega (arith, length-append (kept s) (c.args.byte ∷ []), s.bytes.ok.0) in
-    c.push-reserved.ensures.items ∙ sym (take_all 6001 (kept s ++ (c.args.byte ∷ [])) few)
+    c.push_reserved.ensures.items ∙ sym (take_all 6001 (kept s ++ (c.args.byte ∷ [])) few)
 
 pub returns-else-len-le-LONGEST : goal.returns-else-len-le-LONGEST
 returns-else-len-le-LONGEST c =
