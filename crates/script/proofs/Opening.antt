@@ -1,10 +1,10 @@
 -- A session that a field's name opens.
-use Rattle.std.proofs.Common.{◌≡◌, ℕ, zero, suc, ◌<◌, List, [], ◌∷◌, length, get_or, codes, sym, refl, ap, ◌∙◌, arith, ext_get_or}
+use Rattle.std.proofs.Common.{◌≡◌, ℕ, zero, suc, ◌<◌, List, [], ◌∷◌, length, get_or, codes, sym, ap, ◌∙◌, arith, ext_get_or}
 use Rattle.f929.specs.Residues.{residues}
 use Rattle.f256.specs.Bytes.{bytes}
 use Rattle.f16.specs.Sixteen.{sixteen}
 use Rattle.bay.specs.Plain.{Plain, empty}
-use Rattle.script.specs.Sessions.{Session, over, Opens}
+use Rattle.script.specs.Sessions.{over, Opens}
 
 -- a list by its length and its elements
 pub two : (l : List ℕ) (a b : ℕ) → length l ≡ 2 → get_or l 0 0 ≡ a → get_or l 1 0 ≡ b → l ≡ a ∷ (b ∷ [])

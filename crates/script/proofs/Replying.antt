@@ -1,5 +1,5 @@
 -- When bytes are the answer to a line.
-use Rattle.std.proofs.Common.{◌≡◌, ℕ, List, Some, None, Option, sym, refl, ap, ◌∙◌, subst}
+use Rattle.std.proofs.Common.{◌≡◌, ℕ, List, Some, None, sym, ap, ◌∙◌}
 use Rattle.field.specs.Meaning.{Meaning}
 use Rattle.bay.specs.Plain.{Plain}
 use Rattle.calls.specs.Steps.{Asked, Told, step}

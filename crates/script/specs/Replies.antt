@@ -2,7 +2,7 @@
 use Rattle.std.specs.Prelude.{◌≡◌, ℕ, ◌+◌, ◌*◌, List, [], ◌∷◌, take, Some, None, Option, slice_index}
 use Rattle.field.specs.Meaning.{Meaning}
 use Rattle.bay.specs.Plain.{Plain, given}
-use Rattle.calls.specs.Steps.{Asked, Said, Told, step, make, load, put, mark, clear, encode, correct, test, read, report, message, yes, no, root, part}
+use Rattle.calls.specs.Steps.{Asked, Said, step, make, load, put, mark, clear, encode, correct, test, read, report, message, yes, no, root, part}
 use Rattle.text.specs.Answers.{question, accepting, refusing}
 use Rattle.text.specs.Lines.{Says, SaysNothing}
 use Rattle.script.specs.Requests.{requested}

@@ -1,7 +1,6 @@
-use Rattle.std.proofs.Common.{◌≡◌, ℕ, Some, None, vec_items, string_bytes, Option, sym, refl, ap, ◌∙◌, subst, MatchOption}
+use Rattle.std.proofs.Common.{vec_items, string_bytes, Option, sym, refl, ap, ◌∙◌, subst, MatchOption}
 use Rattle.std.proofs.lemmas.Result.{IfOk-weaker}
 use Rattle.bay.specs.Held.{held}
-use Rattle.calls.specs.declared.Call.{Call}
 use Rattle.calls.specs.Runs.{asked, told}
 use Rattle.text.specs.declared.line.Sentence.{Sentence}
 use Rattle.text.specs.Lines.{Says, SaysNothing}
