@@ -1,6 +1,6 @@
 -- The worked examples.
 use Rattle.std.specs.Prelude.{List, [], ◌∷◌, replicate, pos, neg_ℤ}
-use Rattle.std.specs.List.{AllByRecursion as All}
+use Rattle.std.specs.List.{AllByRecursion}
 use Rattle.code.specs.Shape.{Shape}
 use Rattle.f16.specs.Sixteen.{sixteen}
 use Rattle.f256.specs.Bytes.{bytes}
@@ -41,4 +41,4 @@ table =
 
 -- every example of the table is right
 abbrev pub TableHolds : Type 0
-TableHolds = All Holds table
+TableHolds = AllByRecursion Holds table

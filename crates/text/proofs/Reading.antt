@@ -3,7 +3,7 @@ use Rattle.std.proofs.Common.{◌≡◌, ℕ, ◌+◌, ◌*◌, ◌<◌, ◌≤�
 use Rattle.std.specs.Str.Parse.{AllDigits, digits_value, digits_value_after}
 use Rattle.std.specs.Int.{IsInRange}
 use Rattle.std.specs.Char.{digit_value, is_ascii_digit}
-use Rattle.std.specs.List.{flat_map, AllByRecursion as All}
+use Rattle.std.specs.List.{flat_map, AllByRecursion}
 use Rattle.std.specs.Str.{all_ascii_digits}
 use Rattle.std.proofs.lemmas.Int.Digits.{digits_value_push, digits_push}
 use Rattle.std.proofs.lemmas.List.{length_push}
@@ -142,13 +142,13 @@ written = flat_map (λ ds. 32 ∷ ds)
 reads_numeral : (ds rest : List ℕ) → Numeral ds → reads 0 0 (ds ++ rest) ≡ reads (digits_value 10 ds) (length ds) rest
 reads_numeral ds rest n = reads_digits ds rest 0 0 (numerals.to ds n.digits) (omega (arith, n.few)) ∙ ap (λ (k : ℕ). reads (digits_value 10 ds) k rest) (omega arith)
 
-reads_all : (nss : List (List ℕ)) (v d : ℕ) → 0 < d → All Numeral nss → reads v d (written nss) ≡ Some (v ∷ map (digits_value 10) nss)
+reads_all : (nss : List (List ℕ)) (v d : ℕ) → 0 < d → AllByRecursion Numeral nss → reads v d (written nss) ≡ Some (v ∷ map (digits_value 10) nss)
 reads_all [] v d some each = reads_end v d some
 reads_all (ds ∷ nss) v d some each =
     reads_space v d (ds ++ written nss) some
     ∙ ap (onto (v ∷ [])) (reads_numeral ds (written nss) each.0 ∙ reads_all nss (digits_value 10 ds) (length ds) each.0.some each.1)
 
-found_all : (nss : List (List ℕ)) → All Numeral nss → found (written nss) ≡ Some (map (digits_value 10) nss)
+found_all : (nss : List (List ℕ)) → AllByRecursion Numeral nss → found (written nss) ≡ Some (map (digits_value 10) nss)
 unfolding found
 found_all [] each = refl
 found_all (ds ∷ nss) each = reads_numeral ds (written nss) each.0 ∙ reads_all nss (digits_value 10 ds) (length ds) each.0.some each.1

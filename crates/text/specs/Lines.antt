@@ -1,7 +1,7 @@
 -- Which letter and numbers a line says. A line is a list of bytes, without the byte that ends it.
 use Rattle.std.specs.Prelude.{◌≡◌, ℕ, ◌<◌, ◌≤◌, true, List, ◌∷◌, map, length}
 use Rattle.std.specs.Str.Parse.{digits_value}
-use Rattle.std.specs.List.{flat_map, AllByRecursion as All}
+use Rattle.std.specs.List.{flat_map, AllByRecursion}
 use Rattle.std.specs.Str.{all_ascii_digits}
 
 -- one to five digits, of which the first may be 0
@@ -13,7 +13,7 @@ pub record Numeral (ds : List ℕ) : Type 0 where
 -- a text that spells numbers: numerals, each after one space
 pub record Spells (text numbers : List ℕ) : Type 0 where
   pub numerals : List (List ℕ)
-  pub each : All Numeral numerals
+  pub each : AllByRecursion Numeral numerals
   pub written : text ≡ flat_map (λ ds. 32 ∷ ds) numerals
   pub read : numbers ≡ map (digits_value 10) numerals
 
