@@ -1,7 +1,7 @@
 /* Restores a damaged label: nine symbols modulo 929, the four checks first.
- * From the repository's root, after `rt staticlib capi`:
+ * From the repository's root, after `(cd crates/capi && rt lib)`:
  *
- *   cc -Iinclude examples/c/restore.c target/staticlib/libcapi.a -o target/restore && target/restore
+ *   mkdir -p target && cc -Iinclude examples/c/restore.c crates/capi/out/libcapi.a -o target/restore && target/restore
  */
 #include "softballbay.h"
 #include <stdio.h>
