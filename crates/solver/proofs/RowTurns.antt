@@ -1,5 +1,5 @@
 -- One turn of each loop over a row.
-use Rattle.std.proofs.Common.{◌≡◌, ℕ, zero, suc, ◌-◌, ◌<◌, ◌≤◌, List, length, get_or, take, set, sym, ap, ◌∙◌, arith, get_or-set_other, get_or-take, get_or-set_same}
+use Rattle.std.proofs.Common.{◌≡◌, ℕ, zero, suc, ◌-◌, ◌<◌, ◌≤◌, List, length, get_or, take, set, sym, ap, ◌∙◌, subst, arith, get_or-set_other, get_or-take, get_or-set_same}
 use native.Mathlib.Decide.{ℕ_discrete}
 use Rattle.algebra.proofs.Convolution as C
 use Rattle.field.specs.Meaning.{Meaning, Laws}
@@ -32,6 +32,16 @@ raised size xs ys r h = record {
   first = get_or-set_same ys 0 0 0 h;
   moved = λ j w. get_or-set_other ys 0 (suc j) 0 0 (omega arith) ∙ r.moved j (omega arith) w;
   rest = λ j w. get_or-set_other ys 0 j 0 0 (omega arith) ∙ r.rest j w;
+}
+
+-- a multiple of a row, place by place
+pub mixed_more : (f : Meaning) (c n : ℕ) (xs to ys : List ℕ) (v : ℕ) → Mixed f c n xs to ys → n < length ys → v ≡ f.sum (get_or ys n 0) (f.prod c (get_or xs n 0)) → Mixed f c (suc n) xs to (set ys n v)
+mixed_more f c n xs to ys v r h e = record {
+  done = λ j w. elim (ℕ_discrete j n) [
+    | yes z ↦ subst (λ i. get_or (set ys n v) i 0 ≡ f.sum (get_or to i 0) (f.prod c (get_or xs i 0))) (sym z) (get_or-set_same ys n v 0 h ∙ e ∙ ap (λ t. f.sum t (f.prod c (get_or xs n 0))) (r.rest n (omega arith)))
+    | no z ↦ get_or-set_other ys n j v 0 z ∙ r.done j (omega arith)
+  ];
+  rest = λ j w. get_or-set_other ys n j v 0 (omega arith) ∙ r.rest j (omega arith);
 }
 
 -- a multiple of the first size places of a row
