@@ -1,6 +1,6 @@
 /* Softballbay for C: words of Reed-Solomon codes, encoded, tested and corrected in place.
  *
- * Build the library with `rt staticlib capi`, and link target/staticlib/libcapi.a. It needs nothing else: it allocates
+ * Build the library with `rt lib` in crates/capi, and link crates/capi/out/libcapi.a. It needs nothing else: it allocates
  * nothing, keeps no state, and may be called from any number of threads at once.
  *
  * A code is n positions, of which the first `checks` are check symbols and the rest the message, and a first root:
