@@ -12,3 +12,17 @@ fitting f c w x =
     (cond (not (length w == c.n)) (Err 7)
     (cond (not (all_below f.q w)) (Err 10)
     (Ok x))))
+
+-- whether the code is one of the field, or the topmost row that says otherwise
+abbrev pub covering : Meaning → Shape → Result (Unit {0}) ℕ
+covering f c =
+    cond (nat_lt f.m c.n) (Err 3)
+    (cond (nat_le f.m c.first) (Err 4)
+    (Ok tt))
+
+-- x where the word is one of the code over q symbols, or the topmost row that says otherwise
+abbrev pub belonging : {X : Type 0} → ℕ → Shape → List ℕ → X → Result X ℕ
+belonging q c w x =
+    cond (not (length w == c.n)) (Err 7)
+    (cond (not (all_below q w)) (Err 10)
+    (Ok x))

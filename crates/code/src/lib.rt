@@ -5,12 +5,15 @@
 ghost use Rattle.std.specs.Prelude.{◌<◌, ◌≤◌};
 
 mod ops;
+pub mod over;
 mod rows;
 pub mod seeking;
 pub mod word;
 
+pub use over::FieldCode;
+
 // Why a call was turned down, in the order of the rows: of several that hold, the topmost is given.
-#[derive(Clone, Copy, Debug)]
+#[derive(Clone, Copy, Debug, PartialEq, Eq)]
 pub enum Refusal {
     Positions,
     Checks,

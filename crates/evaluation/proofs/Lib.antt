@@ -1,2 +1,3 @@
 pub mod Powering
+pub mod Rounding
 pub mod Valuing

@@ -1,9 +1,33 @@
-// Values of polynomials at many points at once, and rows of powers of a field's step element to take as points.
+// Values of polynomials at a power of a field's step element or at many points at once, and rows of powers to take as points.
 #![tactic(auto)]
 
+ghost use Rattle.std.specs.Prelude.{◌≡◌};
+ghost use Rattle.field.specs.Sums.{weighed};
+ghost use Rattle.field.specs.Symbols.{known};
 ghost use Rattle.evaluation.specs.Values.{Cleared, Powers, Values};
 
 use field::{Field, Fixed};
+
+// The value of a polynomial at a^t: the exponent goes round by t at each coefficient. A number that is no symbol counts as 0.
+pub fn value<F: Fixed<Q, M>, const Q: u32, const M: u32>(
+    field: &F,
+    polynomial: &[u32],
+    t: u32,
+) -> u32
+    ensures { result ≡ weighed (F.Field.means field.now) (known (F.Field.means field.now).q polynomial.now) t }
+{
+    let step = t % M;
+    let mut total = 0;
+    let mut e = 0;
+    for x in polynomial {
+        total = field.sum(total, field.product(*x, field.power(e as u16)));
+        e += step;
+        if e >= M {
+            e -= M;
+        }
+    }
+    total
+}
 
 // Writes a^start, a^(start + step), a^(start + 2 step) and so on.
 pub fn powers<F: Fixed<Q, M>, const Q: u32, const M: u32>(

@@ -5,7 +5,7 @@ use Rattle.field.specs.Meaning.{Meaning, Laws, pow}
 use Rattle.field.specs.Sums.{sum_of}
 
 module _ (f : Meaning) (l : Laws f) where
-  zero_in : 0 < f.q
+  pub zero_in : 0 < f.q
   zero_in = omega (arith, l.q_low)
 
   one_in : 1 < f.q
@@ -20,6 +20,16 @@ module _ (f : Meaning) (l : Laws f) where
 
   pub zero_sum : (x : ℕ) → x < f.q → f.sum 0 x ≡ x
   zero_sum x h = l.sum_comm 0 x zero_in h ∙ l.sum_zero x h
+
+  -- 0 times anything
+  pub zero_prod : (x : ℕ) → x < f.q → f.prod 0 x ≡ 0
+  zero_prod x h =
+      let z = f.prod x 0 in
+      let z_in : z < f.q = l.prod_in x 0 h zero_in in
+      let twice : z ≡ f.sum z z = ap (f.prod x) (sym (l.sum_zero 0 zero_in)) ∙ l.distrib x 0 0 h zero_in zero_in in
+      l.prod_comm 0 x zero_in h
+      ∙ sym (l.sum_zero z z_in) ∙ ap (f.sum z) (sym (l.sum_opp z z_in)) ∙ sym (l.sum_assoc z z (f.opp z) z_in z_in (l.opp_in z z_in))
+      ∙ ap (λ (y : ℕ). f.sum y (f.opp z)) (sym twice) ∙ l.sum_opp z z_in
 
   pub pow_add : (x i j : ℕ) → x < f.q → pow f x (i + j) ≡ f.prod (pow f x i) (pow f x j)
   pow_add x zero j h = ap (pow f x) (zero-add j) ∙ sym (one_prod (pow f x j) (pow_in x j h))

@@ -1,7 +1,7 @@
 -- Rows of symbols below q.
-use Rattle.std.proofs.Common.{◌≡◌, ℕ, zero, suc, ◌<◌, true, ltb, List, [], ◌∷◌, length, get_or, set, replicate, refl, arith, ltb-true, lt-ltb}
+use Rattle.std.proofs.Common.{◌≡◌, ℕ, zero, suc, ◌<◌, ◌≤◌, true, cond, ltb, List, [], ◌∷◌, length, get_or, set, replicate, refl, ap, ap₂, arith, ltb-true, lt-ltb, le-ltb}
 use Rattle.std.proofs.lemmas.Bool.{and_parts, and_from}
-use Rattle.field.specs.Symbols.{all_below, Symbols, Within}
+use Rattle.field.specs.Symbols.{all_below, Symbols, Within, known}
 
 pub symbol_at : (q : ℕ) (ws : List ℕ) (i : ℕ) → all_below q ws ≡ true → i < length ws → get_or ws i 0 < q
 symbol_at q [] i s h = absurd (omega arith)
@@ -29,3 +29,28 @@ within_from q (w ∷ ws) h s (suc i) = within_from q ws h (and_parts (ltb w q) (
 pub below_from : (q : ℕ) (ws : List ℕ) → Symbols q ws → all_below q ws ≡ true
 below_from q [] s = refl
 below_from q (w ∷ ws) s = and_from (ltb w q) (all_below q ws) (lt-ltb w q (s 0 (omega arith))) (below_from q ws (λ i h. s (suc i) (omega arith)))
+
+-- where all numbers are symbols, each counts as what it is
+pub known_all : (q : ℕ) (ws : List ℕ) → all_below q ws ≡ true → known q ws ≡ ws
+known_all q [] s = refl
+known_all q (w ∷ ws) s =
+    let p = and_parts (ltb w q) (all_below q ws) s in
+    ap₂ (λ (x : ℕ) xs. x ∷ xs) (ap (λ b. cond b w 0) p.0) (known_all q ws p.1)
+
+pub known_within : (q : ℕ) (ws : List ℕ) → Within q ws → known q ws ≡ ws
+known_within q ws h = known_all q ws (below_from q ws (λ i _. h i))
+
+pub known_length : (q : ℕ) (ws : List ℕ) → length (known q ws) ≡ length ws
+known_length q [] = refl
+known_length q (w ∷ ws) = ap (λ (n : ℕ). suc n) (known_length q ws)
+
+-- what stands at a place
+pub known_symbol : (q : ℕ) (ws : List ℕ) (i : ℕ) → get_or ws i 0 < q → get_or (known q ws) i 0 ≡ get_or ws i 0
+known_symbol q [] i h = refl
+known_symbol q (w ∷ ws) zero h = ap (λ b. cond b w 0) (lt-ltb w q h)
+known_symbol q (w ∷ ws) (suc i) h = known_symbol q ws i h
+
+pub known_other : (q : ℕ) (ws : List ℕ) (i : ℕ) → q ≤ get_or ws i 0 → get_or (known q ws) i 0 ≡ 0
+known_other q [] i h = refl
+known_other q (w ∷ ws) zero h = ap (λ b. cond b w 0) (le-ltb w q h)
+known_other q (w ∷ ws) (suc i) h = known_other q ws i h
