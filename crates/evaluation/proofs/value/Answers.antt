@@ -1,4 +1,4 @@
-use Rattle.std.proofs.Common.{◌≡◌, ℕ, suc, ◌+◌, ◌-◌, ◌%◌, ◌<◌, ◌≤◌, sym, ap, subst, add-one, arith}
+use Rattle.std.proofs.Common.{◌≡◌, ℕ, suc, ◌%◌, sym, ap, subst, add-one, arith}
 use Rattle.evaluation.proofs.Rounding.{Rounding, rounding_none, rounding_ahead, rounding_back, rounding_all}
 use Rattle.evaluation.proofs.value.Goals as goal
 use Rattle.evaluation.proofs.value.Goals.{then-e, else-e}
