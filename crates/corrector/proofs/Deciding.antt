@@ -4,8 +4,8 @@ use native.Mathlib.Decide.{dec_lt, dec_le}
 use Rattle.std.proofs.lemmas.List.{get_or_past}
 use Rattle.std.proofs.lemmas.Bool.{cases_lt, eq-eqb}
 use Rattle.field.specs.Meaning.{Meaning, Laws}
-use Rattle.field.specs.Symbols.{Within}
-use Rattle.field.proofs.Symbols.{below_from}
+use Rattle.field.specs.Symbols.{Within, all_below}
+use Rattle.field.proofs.Symbols.{below_from, symbol_at}
 use Rattle.field.proofs.Lifting.{value_in}
 use Rattle.code.specs.Shape.{Shape}
 use Rattle.code.specs.Words.{Word, Codeword, Near, count, marked, check_sum}
@@ -14,9 +14,9 @@ use Rattle.solver.specs.Pairs.{Least}
 use Rattle.solver.specs.Answer.{Counts, Solved, refusal_of}
 use Rattle.solver.proofs.Refusing.{accepts}
 use Rattle.solver.proofs.Ending.{within}
-use Rattle.errata.specs.Pieces.{modified, places_of}
+use Rattle.errata.specs.Pieces.{modified}
 use Rattle.errata.specs.Pinned.{Sighted}
-use Rattle.errata.specs.Joined.{Joined, shown}
+use Rattle.errata.specs.Joined.{Joined}
 use Rattle.errata.proofs.Reading.{least_same}
 use Rattle.errata.proofs.Lifting.{modified_in}
 use Rattle.errata.proofs.Joining.{joins, reaches}
@@ -26,27 +26,21 @@ use Rattle.corrector.specs.MendSteps.{Placed, Mended}
 use Rattle.corrector.proofs.RowTurns.{modified_cong}
 use Rattle.corrector.specs.SearchSteps.{Modifies, Attempted, Repaired, Found}
 
--- a pair that shows too many wrong positions, and one that is mended by
-module _ (f : Meaning) (c : Shape) (erased : List Bool) (A B w ps : List ℕ) (found wrong s : ℕ) (ml : length erased ≡ c.n) (s_is : s ≡ marked c erased) (placed : Placed f erased B (length erased) ps found wrong) where
-  shown_is : wrong ≡ shown f c erased B
-  shown_is = (subst (λ n. Placed f erased B n ps found wrong) ml placed).number
-
-  pub many : (u : List ℕ) → c.checks < 2 * wrong + s → Attempted f c erased A B w false u
+-- a pair that shows too many errors, and one that is mended by
+module _ (f : Meaning) (c : Shape) (erased : List Bool) (A B w ps : List ℕ) (errors s : ℕ) (s_is : s ≡ marked c erased) (placed : Placed f erased B c.n ps errors) where
+  pub many : (u : List ℕ) → c.checks < 2 * errors + s → Attempted f c erased A B w false u
   many u h = record {
     tried = λ e. absurd (no_both false e refl);
     few = λ e. absurd (no_both false e refl);
-    none = λ _ v j. let k = j.few in let e = shown_is in omega arith;
+    none = λ _ v j. let k = j.few in let e = placed.number in omega arith;
   }
 
-  pub places_are : take found ps ≡ places_of f c erased B
-  places_are = (subst (λ n. Placed f erased B n ps found wrong) ml placed).is
-
-  pub mended_by : (places u : List ℕ) (done : Bool) → places ≡ take found ps → 2 * wrong + s ≤ c.checks → Mended f c A B places w done u → Attempted f c erased A B w done u
-  mended_by places u done e h m =
-      let m' = subst (λ xs. Mended f c A B xs w done u) (e ∙ places_are) m in
+  pub mended_by : (u : List ℕ) (done : Bool) → 2 * errors + s ≤ c.checks → Mended f c A B ps w done u → Attempted f c erased A B w done u
+  mended_by u done h m =
+      let m' = subst (λ xs. Mended f c A B xs w done u) placed.is m in
       record {
         tried = m'.tried;
-        few = λ _. let e = shown_is in omega arith;
+        few = λ _. let e = placed.number in omega arith;
         none = λ z v j. let k = m'.stuck z in j.divides k.0 k.1 k.2 k.3;
       }
 
@@ -115,6 +109,13 @@ module _ (f : Meaning) (l : Laws f) (c : Shape) (cn : c.n ≤ f.m) (erased : Lis
       never x o p q = let z : ◌≡◌ {A = ℕ} 0 1 = cc in omega arith
 
 module _ (f : Meaning) (l : Laws f) (c : Shape) (erased : List Bool) (w : List ℕ) where
+  -- the syndromes of a word are all 0 exactly where it is a codeword
+  pub all_zero : (u S : List ℕ) → length S ≡ c.checks → Syndromes f c u S → all_below 1 S ≡ true → Codeword f c u
+  all_zero u S ls s z j h = let d = symbol_at 1 S j z (omega arith) in sym (s j h) ∙ omega arith
+
+  pub zero_all : (u S : List ℕ) → length S ≡ c.checks → Syndromes f c u S → Codeword f c u → all_below 1 S ≡ true
+  zero_all u S ls s code = below_from 1 S (λ j h. rw (s j (omega arith) ∙ code j (omega arith)) (omega arith))
+
   -- more erasures than checks
   pub too_many : (u : List ℕ) → c.checks < marked c erased → Found f c erased w false u
   too_many u h = record {
@@ -143,15 +144,15 @@ module _ (f : Meaning) (l : Laws f) (c : Shape) (erased : List Bool) (w : List �
       here = record { word = ww; codeword = code; reach = let e = same c.n in omega arith }
 
   -- syndromes are symbols
-  pub syndromes_in : (S : List ℕ) (b : Bool) → Within f.q w → Syndromes f c w S b → Within f.q S
-  syndromes_in S b hw s j = elim (cases_lt j (length S)) [
-    | inl h ↦ rw (s.is j h) (value_in f l (length w) w (c.first + j) hw)
+  pub syndromes_in : (S : List ℕ) → Within f.q w → length S ≡ c.checks → Syndromes f c w S → Within f.q S
+  syndromes_in S hw ls s j = elim (cases_lt j (length S)) [
+    | inl h ↦ rw (s j (omega arith)) (value_in f l (length w) w (c.first + j) hw)
     | inr h ↦ rw (get_or_past S j 0 h) (omega (arith, l.q_low))
   ]
 
   -- the modified syndromes of w
-  pub modifies : (S g : List ℕ) (b : Bool) → Within f.q w → length S ≡ c.checks → length erased ≡ c.n → Syndromes f c w S b → Modified f erased (length erased) S g → Modifies f c erased w g
-  modifies S g b hw ls le s m = record {
+  pub modifies : (S g : List ℕ) → Within f.q w → length S ≡ c.checks → length erased ≡ c.n → Syndromes f c w S → Modified f erased (length erased) S g → Modifies f c erased w g
+  modifies S g hw ls le s m = record {
     long = m.long ∙ ls;
     inside = λ j. elim (cases_lt j (length S)) [
       | inl h ↦ rw (is j h) (modified_in f l (λ i. get_or erased i false) (check_sum f c w) (λ i. value_in f l (length w) w (c.first + i) hw) c.n j)
@@ -161,16 +162,23 @@ module _ (f : Meaning) (l : Laws f) (c : Shape) (erased : List Bool) (w : List �
   }
     where
       is : (j : ℕ) → j < length S → get_or g j 0 ≡ modified f (λ i. get_or erased i false) (check_sum f c w) c.n j
-      is j h = m.is j h ∙ ap (λ n. modified f (λ i. get_or erased i false) (λ i. get_or S i 0) n j) le ∙ modified_cong f (λ i. get_or erased i false) (λ i. get_or S i 0) (check_sum f c w) c.n j (λ i k. s.is i (omega arith))
+      is j h = m.is j h ∙ ap (λ n. modified f (λ i. get_or erased i false) (λ i. get_or S i 0) n j) le ∙ modified_cong f (λ i. get_or erased i false) (λ i. get_or S i 0) (check_sum f c w) c.n j (λ i k. s i (omega arith))
 
   -- what was tried, and whether it is a codeword
-  module _ (u : List ℕ) (done : Bool) (r : Repaired f c erased w done u) where
-    pub untried : done ≡ false → Found f c erased w done u
-    untried z = record { near = λ e. absurd (no_both done e z); only = λ e. absurd (no_both done e z); none = r.none }
-
-    pub tested : (S : List ℕ) (b : Bool) → done ≡ true → Syndromes f c u S b → Found f c erased w b u
-    tested S b z s = record {
-      near = λ y. record { word = r.word z; codeword = s.passes y; reach = r.reach z };
-      only = λ _. r.only z;
-      none = λ y v n. s.fails y (subst (Codeword f c) (r.only z v n) n.codeword);
+  module _ (u : List ℕ) (r : Repaired f c erased w true u) (S : List ℕ) (ls : length S ≡ c.checks) (s : Syndromes f c u S) where
+    pub tested : all_below 1 S ≡ true → Found f c erased w true u
+    tested z = record {
+      near = λ _. record { word = r.word refl; codeword = all_zero u S ls s z; reach = r.reach refl };
+      only = λ _. r.only refl;
+      none = λ e. absurd (no_both true refl e);
     }
+
+    pub failed : all_below 1 S ≡ false → Found f c erased w false u
+    failed z = record {
+      near = λ e. absurd (no_both false e refl);
+      only = λ e. absurd (no_both false e refl);
+      none = λ _ v n. no_both (all_below 1 S) (zero_all u S ls s (subst (Codeword f c) (r.only refl v n) n.codeword)) z;
+    }
+
+  pub untried : (u : List ℕ) → Repaired f c erased w false u → Found f c erased w false u
+  untried u r = record { near = λ e. absurd (no_both false e refl); only = λ e. absurd (no_both false e refl); none = r.none }

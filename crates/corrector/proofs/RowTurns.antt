@@ -1,69 +1,22 @@
 -- The turns of the loops over the syndromes.
-use Rattle.std.proofs.Common.{◌≡◌, ℕ, zero, suc, ◌+◌, ◌%◌, ◌<◌, ◌≤◌, Bool, true, false, cond, List, length, get_or, set, sym, refl, ap, ◌∙◌, subst, ap₂, inl, inr, arith, get_or-set_other, get_or-set_same}
-use mathlib.Core.Path.{fun_ext}
+use Rattle.std.proofs.Common.{◌≡◌, ℕ, zero, suc, ◌+◌, ◌<◌, ◌≤◌, Bool, true, false, cond, List, length, get_or, set, sym, ap, ◌∙◌, subst, ap₂, inl, inr, arith, get_or-set_other, get_or-set_same}
 use native.Mathlib.Decide.{ℕ_discrete}
 use Rattle.std.proofs.lemmas.List.{get_or_past}
 use Rattle.std.proofs.lemmas.Bool.{cases_lt}
 use Rattle.field.specs.Meaning.{Meaning, Laws, pow}
 use Rattle.field.specs.Symbols.{Within}
-use Rattle.field.specs.Sums.{sum_of, weighed}
-use Rattle.field.proofs.Powers as P
-use Rattle.field.proofs.Lifting as B
 use Rattle.code.specs.Shape.{Shape}
 use Rattle.code.specs.Words.{check_sum}
 use Rattle.errata.specs.Pieces.{less, modified}
-use Rattle.errata.proofs.Pinning.{no_both}
-use Rattle.corrector.specs.RowSteps.{Multiplied, Modified, Syndromes}
+use Rattle.corrector.specs.RowSteps.{Multiplied, Modified}
 
--- an exponent counts modulo m
-weighed_mod : (f : Meaning) → Laws f → (w : List ℕ) (t : ℕ) → weighed f w (t % f.m) ≡ weighed f w t
-weighed_mod f l w t = ap (sum_of f (length w)) (fun_ext (λ i. ap (f.prod (get_or w i 0))
-    (B.pow_mul f l f.a i (t % f.m) l.a_high ∙ ap (λ (x : ℕ). pow f x i) (P.pow_mod f l t) ∙ sym (B.pow_mul f l f.a i t l.a_high))))
-
--- syndrome j, with the turn and the first root as the code has them
-pub syndrome_is : (f : Meaning) → Laws f → (c : Shape) (w : List ℕ) (M b j x : ℕ) → f.m ≡ M → b ≡ c.first → x ≡ weighed f w ((b + j) % M) → x ≡ check_sum f c w j
-syndrome_is f l c w M b j x turn e h = h ∙ ap₂ (λ (t m : ℕ). weighed f w ((t + j) % m)) e (sym turn) ∙ weighed_mod f l w (c.first + j)
-
--- the first n syndromes stand in S, and clean says whether they are 0
-pub record Summing (f : Meaning) (c : Shape) (w : List ℕ) (n : ℕ) (S : List ℕ) (clean : Bool) : Type 0 where
-  pub is : (j : ℕ) → j < n → get_or S j 0 ≡ check_sum f c w j
-  pub passes : clean ≡ true → (j : ℕ) → j < n → check_sum f c w j ≡ 0
-  pub fails : clean ≡ false → ((j : ℕ) → j < n → check_sum f c w j ≡ 0) → ⊥
-
-pub summing_none : (f : Meaning) (c : Shape) (w S : List ℕ) → Summing f c w 0 S true
-summing_none f c w S = record { is = λ j h. absurd (omega arith); passes = λ _ j h. absurd (omega arith); fails = λ e. absurd (no_both true refl e) }
-
-module _ (f : Meaning) (c : Shape) (w : List ℕ) (n : ℕ) (S : List ℕ) (clean : Bool) (s : Summing f c w n S clean) where
-  module _ (x : ℕ) (h : n < length S) (e : x ≡ check_sum f c w n) where
-    at : (j : ℕ) → j < suc n → get_or (set S n x) j 0 ≡ check_sum f c w j
-    at j k = elim (ℕ_discrete j n) [
-      | yes z ↦ subst (λ i. get_or (set S n x) i 0 ≡ check_sum f c w i) (sym z) (get_or-set_same S n x 0 h ∙ e)
-      | no z ↦ get_or-set_other S n j x 0 z ∙ s.is j (omega arith)
-    ]
-
-    pub summing_zero : x ≡ 0 → Summing f c w (suc n) (set S n x) clean
-    summing_zero z = record {
-      is = at;
-      passes = λ y j k. elim (ℕ_discrete j n) [
-        | yes o ↦ ap (check_sum f c w) o ∙ sym e ∙ z
-        | no o ↦ s.passes y j (omega arith)
-      ];
-      fails = λ y all. s.fails y (λ j k. all j (omega arith));
-    }
-
-    pub summing_other : ¬ (x ≡ 0) → Summing f c w (suc n) (set S n x) false
-    summing_other ne = record {
-      is = at;
-      passes = λ y. absurd (no_both false y refl);
-      fails = λ _ all. ne (e ∙ all n (omega arith));
-    }
-
-  pub summing_all : n ≡ length S → length S ≡ c.checks → Syndromes f c w S clean
-  summing_all e k = record {
-    is = λ j h. s.is j (omega arith);
-    passes = λ y j h. s.passes y j (omega arith);
-    fails = λ y all. s.fails y (λ j h. all j (omega arith));
-  }
+-- one syndrome more
+pub syndrome_more : (f : Meaning) (c : Shape) (w S : List ℕ) (n x : ℕ) → n < length S → ((j : ℕ) → j < n → get_or S j 0 ≡ check_sum f c w j) → x ≡ check_sum f c w n
+    → (j : ℕ) → j < n + 1 → get_or (set S n x) j 0 ≡ check_sum f c w j
+syndrome_more f c w S n x h done e j k = elim (ℕ_discrete j n) [
+  | yes z ↦ subst (λ i. get_or (set S n x) i 0 ≡ check_sum f c w i) (sym z) (get_or-set_same S n x 0 h ∙ e)
+  | no z ↦ get_or-set_other S n j x 0 z ∙ done j (omega arith)
+]
 
 -- from n on multiplied
 pub record Multiplying (f : Meaning) (x n : ℕ) (xs ys : List ℕ) : Type 0 where

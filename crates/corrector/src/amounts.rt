@@ -1,12 +1,14 @@
 // The amounts at the located positions, and the word that they mend.
-ghost use Rattle.std.specs.Prelude.{◌≡◌, ◌<◌, ◌≤◌, length, MatchOption, slice_index};
+ghost use Rattle.std.specs.Prelude.{◌≡◌, ◌<◌, ◌≤◌, length, is_ok, IfErr, MatchOption};
 ghost use Rattle.field.specs.Symbols.{Within};
 ghost use Rattle.code.specs.Shape.{shape};
+ghost use Rattle.code.specs.Refusals.{number};
 ghost use Rattle.errata.specs.Pieces.{spread, divisor, mended};
 ghost use Rattle.corrector.specs.MendSteps.{Mended};
 
-use crate::syndromes::value;
-use code::Code;
+use crate::received::Received;
+use code::Refusal;
+use evaluation::value;
 use field::Fixed;
 
 // The product of 1 - a^(l - k) over the places l but k.
@@ -26,71 +28,46 @@ fn spread_at<F: Fixed<Q, M>, const Q: u32, const M: u32>(field: &F, places: &[u3
     product
 }
 
-// The coefficient of 1.
-fn constant(row: &[u32]) -> u32
-    ensures { result ≡ slice_index row.now 0 }
-{
-    if row.len() > 0 { row[0] } else { 0 }
-}
-
-// The symbol that belongs at k, or nothing where the divisor is 0.
-fn mended_at<F: Fixed<Q, M>, const Q: u32, const M: u32>(
-    field: &F,
-    code: &Code,
-    evaluator: &[u32],
-    locator: &[u32],
-    places: &[u32],
-    word: &[u32],
-    k: u32,
-) -> Option<u32>
-    requires start { (shape code.now).first < M }
-    requires turn { k < M }
-    requires here { k < length word.now }
-    requires left { Within Q evaluator.now }
-    requires right { Within Q locator.now }
-    requires inside { Within M places.now }
-    requires symbols { Within Q word.now }
-    ensures { MatchOption result (divisor (F.Field.means field.now) (shape code.now) locator.now places.now k ≡ 0)
-        (λ x. (x < Q) × (x ≡ mended (F.Field.means field.now) (shape code.now) evaluator.now locator.now places.now word.now k)) }
-{
-    let turn = field.power((k * code.first_root() % M) as u16);
-    let d = field.product(
-        field.product(constant(locator), turn),
-        spread_at(field, places, k),
-    );
-    let Some(t) = field.reciprocal(d) else {
-        return None;
-    };
-    let amount = field.product(value(field, evaluator, M - k), t);
-    Some(field.sum(word[k as usize], field.opposite(amount)))
-}
-
-// Writes the word with the symbols at the places mended; false where a divisor is 0.
-pub(crate) fn mend<F: Fixed<Q, M>, const Q: u32, const M: u32>(
-    field: &F,
-    code: &Code,
-    evaluator: &[u32],
-    locator: &[u32],
-    places: &[u32],
-    word: &[u32],
-    out: &mut [u32],
-) -> bool
-    requires start { (shape code.now).first < M }
-    requires turn { (shape code.now).n ≤ M }
-    requires long { length word.now ≡ (shape code.now).n }
-    requires room { length out.old ≡ (shape code.now).n }
-    requires left { Within Q evaluator.now }
-    requires right { Within Q locator.now }
-    requires inside { Within (shape code.now).n places.now }
-    requires symbols { Within Q word.now }
-    ensures { Mended (F.Field.means field.now) (shape code.now) evaluator.now locator.now places.now word.now result out.new }
-{
-    out.copy_from_slice(word);
-    for k in places {
-        let Some(x) = mended_at(field, code, evaluator, locator, places, word, *k) else {
-            return false;
-        };
-        out[*k as usize] = x;
+impl<'a, F: Fixed<Q, M>, const Q: u32, const M: u32> Received<'a, F, Q, M> {
+    // The symbol that belongs at k, or nothing where the divisor is 0.
+    fn mended_at(&self, evaluator: &[u32], locator: &[u32], places: &[u32], k: u32) -> Option<u32>
+        requires here { k < (shape self.now.over.code).n }
+        requires left { Within Q evaluator.now }
+        requires right { Within Q locator.now }
+        requires inside { Within M places.now }
+        ensures { MatchOption result (divisor (F.Field.means self.now.over.field.now) (shape self.now.over.code) locator.now places.now k ≡ 0)
+            (λ x. (x < Q) × (x ≡ mended (F.Field.means self.now.over.field.now) (shape self.now.over.code) evaluator.now locator.now places.now self.now.word.now k)) }
+    {
+        let field = self.over.field;
+        let turn = field.power((k * self.over.code.first_root() % M) as u16);
+        let constant = locator.first().copied().unwrap_or(0);
+        let d = field.product(field.product(constant, turn), spread_at(field, places, k));
+        let t = field.reciprocal(d)?;
+        let amount = field.product(value(field, evaluator, M - k), t);
+        Some(field.sum(self.word[k as usize], field.opposite(amount)))
     }
-    true
+
+    // Writes the word with the symbols at the places mended. Where a divisor is 0, no codeword is in reach.
+    pub(crate) fn mend(
+        &self,
+        evaluator: &[u32],
+        locator: &[u32],
+        places: &[u32],
+        out: &mut [u32],
+    ) -> Result<(), Refusal>
+        requires room { length out.old ≡ (shape self.now.over.code).n }
+        requires left { Within Q evaluator.now }
+        requires right { Within Q locator.now }
+        requires inside { Within (shape self.now.over.code).n places.now }
+        ensures mended { Mended (F.Field.means self.now.over.field.now) (shape self.now.over.code) evaluator.now locator.now places.now self.now.word.now (is_ok result) out.new }
+        ensures row { IfErr result (λ e. number e ≡ 12) }
+    {
+        out.copy_from_slice(self.word);
+        for k in places {
+            out[*k as usize] = self
+                .mended_at(evaluator, locator, places, *k)
+                .ok_or(Refusal::OutOfReach)?;
+        }
+        Ok(())
+    }
 }

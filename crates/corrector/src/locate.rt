@@ -1,36 +1,39 @@
 // The positions that are erased or that the locator shows.
-ghost use Rattle.std.specs.Prelude.{◌≤◌, length};
+ghost use Rattle.std.specs.Prelude.{length};
+ghost use Rattle.code.specs.Shape.{shape};
 ghost use Rattle.field.specs.Symbols.{Within};
 ghost use Rattle.corrector.specs.MendSteps.{Placed};
 
-use crate::syndromes::value;
+use crate::POSITIONS;
+use crate::received::Received;
+use arrayvec::ArrayVec;
+use evaluation::value;
 use field::Fixed;
 
-// Writes the located positions, rising: those erased, and the roots of the locator.
-// Answers how many they are, and how many of them are not erased.
-pub(crate) fn locate<F: Fixed<Q, M>, const Q: u32, const M: u32>(
-    field: &F,
-    erased: &[bool],
-    locator: &[u32],
-    places: &mut [u32],
-) -> (usize, u32)
-    requires few { length erased.now ≤ 928 }
-    requires turn { length erased.now ≤ M }
-    requires room { length erased.now ≤ length places.old }
-    requires symbols { Within Q locator.now }
-    ensures { Placed (F.Field.means field.now) erased.now locator.now (length erased.now) places.new result.0 result.1 }
-{
-    let mut found = 0;
-    let mut wrong = 0;
-    for i in 0..erased.len() {
-        if !erased[i] {
-            if value(field, locator, M - i as u32) != 0 {
-                continue;
+// The located positions, rising, and how many of them are not erased.
+#[derive(Drop)]
+pub(crate) struct Located {
+    pub(crate) places: ArrayVec<u32, POSITIONS>,
+    pub(crate) errors: u32,
+}
+
+impl<'a, F: Fixed<Q, M>, const Q: u32, const M: u32> Received<'a, F, Q, M> {
+    // The positions that are erased and those that are roots of the locator.
+    pub(crate) fn locate(&self, locator: &[u32]) -> Located
+        requires symbols { Within Q locator.now }
+        ensures { Placed (F.Field.means self.now.over.field.now) self.now.erased.now locator.now (shape self.now.over.code).n result.places.items result.errors }
+    {
+        let mut places = ArrayVec::new();
+        let mut errors = 0;
+        for (i, erased) in self.erased.iter().enumerate() {
+            if !*erased {
+                if value(self.over.field, locator, M - i as u32) != 0 {
+                    continue;
+                }
+                errors += 1;
             }
-            wrong += 1;
+            places.push(i as u32);
         }
-        places[found] = i as u32;
-        found += 1;
+        Located { places, errors }
     }
-    (found, wrong)
 }

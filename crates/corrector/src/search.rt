@@ -1,15 +1,14 @@
 // The search for the codeword in reach.
-ghost use Rattle.std.specs.Prelude.{◌≡◌, ℕ, ◌<◌, ◌≤◌, false, length, slice_index_or};
-ghost use Rattle.field.specs.Symbols.{Within};
+ghost use Rattle.std.specs.Prelude.{◌≡◌, ◌≤◌, length, is_ok, IfErr};
+ghost use Rattle.field.specs.Symbols.{Within, all_below};
 ghost use Rattle.code.specs.Shape.{shape};
-ghost use Rattle.code.specs.Words.{Word, count, marked};
+ghost use Rattle.code.specs.Refusals.{number};
+ghost use Rattle.code.specs.Words.{marked};
 ghost use Rattle.corrector.specs.SearchSteps.{Modifies, Attempted, Repaired, Found};
 
-use crate::POSITIONS;
-use crate::amounts::mend;
-use crate::locate::locate;
-use crate::syndromes::{modify, syndromes};
-use code::Code;
+use crate::received::Received;
+use crate::syndromes::{modify, write_syndromes};
+use code::{Code, Refusal};
 use field::Fixed;
 use solver::solve;
 
@@ -18,137 +17,94 @@ const SYNDROMES: usize = Code::MOST_CHECKS as usize;
 
 const COEFFICIENTS: usize = SYNDROMES + 1;
 
-// How many positions are erased.
-fn erasures(erased: &[bool]) -> u32
-    requires few { length erased.now ≤ 928 }
-    ensures { result ≡ count (length erased.now) (λ i. slice_index_or erased.now i false) }
-{
-    let mut s = 0;
-    for e in erased {
-        if *e {
-            s += 1;
+impl<'a, F: Fixed<Q, M>, const Q: u32, const M: u32> Received<'a, F, Q, M> {
+    // Locates and mends by an evaluator and a locator, where s positions are erased. A refusal says that these show no codeword in reach.
+    fn attempt(
+        &self,
+        s: u32,
+        evaluator: &[u32],
+        locator: &[u32],
+        out: &mut [u32],
+    ) -> Result<(), Refusal>
+        requires number { s ≡ marked (shape self.now.over.code) self.now.erased.now }
+        requires few { s ≤ 512 }
+        requires left { Within Q evaluator.now }
+        requires right { Within Q locator.now }
+        requires room { length out.old ≡ (shape self.now.over.code).n }
+        ensures attempted { Attempted (F.Field.means self.now.over.field.now) (shape self.now.over.code) self.now.erased.now evaluator.now locator.now self.now.word.now (is_ok result) out.new }
+        ensures row { IfErr result (λ e. number e ≡ 12) }
+    {
+        let located = self.locate(locator);
+        if 2 * located.errors + s > self.over.code.checks() {
+            return Err(Refusal::OutOfReach);
         }
+        self.mend(evaluator, locator, located.places.as_slice(), out)
     }
-    s
-}
 
-// Locates and mends by an evaluator and a locator, where s positions are erased; false where these show that no codeword is in reach.
-fn attempt<F: Fixed<Q, M>, const Q: u32, const M: u32>(
-    field: &F,
-    code: &Code,
-    erased: &[bool],
-    s: u32,
-    evaluator: &[u32],
-    locator: &[u32],
-    word: &[u32],
-    out: &mut [u32],
-) -> bool
-    requires start { (shape code.now).first < M }
-    requires turn { (shape code.now).n ≤ M }
-    requires marks { length erased.now ≡ (shape code.now).n }
-    requires number { s ≡ marked (shape code.now) erased.now }
-    requires few { s ≤ 512 }
-    requires left { Within Q evaluator.now }
-    requires right { Within Q locator.now }
-    requires long { length word.now ≡ (shape code.now).n }
-    requires symbols { Within Q word.now }
-    requires room { length out.old ≡ (shape code.now).n }
-    ensures { Attempted (F.Field.means field.now) (shape code.now) erased.now evaluator.now locator.now word.now result out.new }
-{
-    let mut places = [0; POSITIONS];
-    let (found, wrong) = locate(field, erased, locator, &mut places);
-    if 2 * wrong + s > code.checks() {
-        return false;
+    // Tries what the least pair of the modified syndromes shows, where s positions are erased.
+    fn repair(&self, s: u32, modified: &[u32], out: &mut [u32]) -> Result<(), Refusal>
+        requires number { s ≡ marked (shape self.now.over.code) self.now.erased.now }
+        requires few { s ≤ 512 }
+        requires row { Modifies (F.Field.means self.now.over.field.now) (shape self.now.over.code) self.now.erased.now self.now.word.now modified.now }
+        requires room { length out.old ≡ (shape self.now.over.code).n }
+        ensures repaired { Repaired (F.Field.means self.now.over.field.now) (shape self.now.over.code) self.now.erased.now self.now.word.now (is_ok result) out.new }
+        ensures row { IfErr result (λ e. number e ≡ 12) }
+    {
+        let mut left = [0; COEFFICIENTS];
+        let mut right = [0; COEFFICIENTS];
+        let order = s as i32 - 1;
+        let checks = self.over.code.checks();
+        let (a, b, _) = solve(
+            self.over.field,
+            modified,
+            checks,
+            order,
+            &mut left,
+            &mut right,
+        )?;
+        self.attempt(s, &left[..a as usize], &right[..b as usize], out)
     }
-    mend(
-        field,
-        code,
-        evaluator,
-        locator,
-        &places[0..found],
-        word,
-        out,
-    )
-}
 
-// Tries what the least pair of the modified syndromes shows, where s positions are erased; false where no codeword is in reach.
-fn repair<F: Fixed<Q, M>, const Q: u32, const M: u32>(
-    field: &F,
-    code: &Code,
-    erased: &[bool],
-    s: u32,
-    modified: &[u32],
-    word: &[u32],
-    out: &mut [u32],
-) -> bool
-    requires start { (shape code.now).first < M }
-    requires turn { (shape code.now).n ≤ M }
-    requires marks { length erased.now ≡ (shape code.now).n }
-    requires number { s ≡ marked (shape code.now) erased.now }
-    requires few { s ≤ 512 }
-    requires row { Modifies (F.Field.means field.now) (shape code.now) erased.now word.now modified.now }
-    requires word { Word Q (shape code.now).n word.now }
-    requires room { length out.old ≡ (shape code.now).n }
-    ensures { Repaired (F.Field.means field.now) (shape code.now) erased.now word.now result out.new }
-{
-    let mut left = [0; COEFFICIENTS];
-    let mut right = [0; COEFFICIENTS];
-    let order = s as i32 - 1;
-    match solve(field, modified, code.checks(), order, &mut left, &mut right) {
-        Ok((a, b, _)) => {
-            let evaluator = &left[0..a as usize];
-            let locator = &right[0..b as usize];
-            attempt(field, code, erased, s, evaluator, locator, word, out)
+    // Seeks with room for the syndromes of the code, one place for each.
+    fn find_with(&self, row: &mut [u32], out: &mut [u32]) -> Result<(), Refusal>
+        requires syndromes { length row.old ≡ (shape self.now.over.code).checks }
+        requires room { length out.old ≡ (shape self.now.over.code).n }
+        ensures found { Found (F.Field.means self.now.over.field.now) (shape self.now.over.code) self.now.erased.now self.now.word.now (is_ok result) out.new }
+        ensures row { IfErr result (λ e. number e ≡ 12) }
+    {
+        let s = self.erasures();
+        if s > self.over.code.checks() {
+            return Err(Refusal::OutOfReach);
         }
-        Err(_) => false,
+        write_syndromes(&self.over, self.word, row);
+        if is_zero(row) {
+            out.copy_from_slice(self.word);
+            return Ok(());
+        }
+        modify(self.over.field, self.erased, row);
+        self.repair(s, row, out)?;
+        write_syndromes(&self.over, out, row);
+        if !is_zero(row) {
+            return Err(Refusal::OutOfReach);
+        }
+        Ok(())
+    }
+
+    // Writes the codeword in reach, where there is one.
+    pub(crate) fn find(&self, out: &mut [u32]) -> Result<(), Refusal>
+        requires room { length out.old ≡ (shape self.now.over.code).n }
+        ensures found { Found (F.Field.means self.now.over.field.now) (shape self.now.over.code) self.now.erased.now self.now.word.now (is_ok result) out.new }
+        ensures row { IfErr result (λ e. number e ≡ 12) }
+    {
+        let mut row = [0; SYNDROMES];
+        let checks = self.over.code.checks() as usize;
+        self.find_with(&mut row[..checks], out)
     }
 }
 
-// Seeks with room for the syndromes of the code, one place for each.
-fn find_with<F: Fixed<Q, M>, const Q: u32, const M: u32>(
-    field: &F,
-    code: &Code,
-    erased: &[bool],
-    word: &[u32],
-    row: &mut [u32],
-    out: &mut [u32],
-) -> bool
-    requires start { (shape code.now).first < M }
-    requires turn { (shape code.now).n ≤ M }
-    requires marks { length erased.now ≡ (shape code.now).n }
-    requires word { Word Q (shape code.now).n word.now }
-    requires syndromes { length row.old ≡ (shape code.now).checks }
-    requires room { length out.old ≡ (shape code.now).n }
-    ensures { Found (F.Field.means field.now) (shape code.now) erased.now word.now result out.new }
+// Whether all syndromes are 0: exactly then they are those of a codeword.
+fn is_zero(syndromes: &[u32]) -> bool
+    ensures { result ≡ all_below 1 syndromes.now }
 {
-    let s = erasures(erased);
-    if s > code.checks() {
-        return false;
-    }
-    if syndromes(field, code, word, row) {
-        out.copy_from_slice(word);
-        return true;
-    }
-    modify(field, erased, row);
-    repair(field, code, erased, s, row, word, out) && syndromes(field, code, out, row)
-}
-
-// Whether a codeword is in reach of a word with its erasures; if so, `out` is that codeword.
-pub(crate) fn find<F: Fixed<Q, M>, const Q: u32, const M: u32>(
-    field: &F,
-    code: &Code,
-    erased: &[bool],
-    word: &[u32],
-    out: &mut [u32],
-) -> bool
-    requires start { (shape code.now).first < M }
-    requires turn { (shape code.now).n ≤ M }
-    requires marks { length erased.now ≡ (shape code.now).n }
-    requires word { Word Q (shape code.now).n word.now }
-    requires room { length out.old ≡ (shape code.now).n }
-    ensures { Found (F.Field.means field.now) (shape code.now) erased.now word.now result out.new }
-{
-    let mut row = [0; SYNDROMES];
-    let checks = code.checks() as usize;
-    find_with(field, code, erased, word, &mut row[0..checks], out)
+    syndromes.iter().all(|syndrome| *syndrome < 1)
 }
