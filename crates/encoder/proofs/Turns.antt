@@ -1,5 +1,5 @@
 -- The loops over rows of symbols: what a turn of each keeps, and what the finished rows are as polynomials.
-use Rattle.std.proofs.Common.{◌≡◌, ℕ, zero, suc, ◌+◌, ◌-◌, ◌<◌, ◌≤◌, List, [], ◌∷◌, length, get_or, set, replicate, take, sym, refl, ap, ◌∙◌, subst, ap₂, add-one, le_refl, arith, get_or-take}
+use Rattle.std.proofs.Common.{◌≡◌, ℕ, zero, suc, ◌+◌, ◌-◌, ◌<◌, ◌≤◌, List, [], ◌∷◌, length, get_or, set, replicate, take, drop, sym, refl, ap, ◌∙◌, subst, ap₂, add-one, le_refl, arith, get_or-drop, get_or-take}
 use native.Mathlib.Decide.{dec_lt}
 use borrow.Rule.Slice.PartMut.{put_mid}
 use Rattle.std.proofs.lemmas.List.{get_or_append_left}
@@ -72,6 +72,9 @@ module _ (f : Meaning) (l : Laws f) where
   take_in (suc n) [] h i = omega (arith, l.q_low)
   take_in (suc n) (x ∷ xs) h zero = h 0
   take_in (suc n) (x ∷ xs) h (suc i) = take_in n xs (λ j. h (suc j)) i
+
+  pub drop_in : (n : ℕ) (xs : List ℕ) → Within f.q xs → Within f.q (drop n xs)
+  drop_in n xs h i = rw (get_or-drop n xs i 0) (h (n + i))
 
   pub turned_in : (c top : ℕ) (from old new : List ℕ) → Turned f c top from old new → c < f.q → Within f.q from → Within f.q old → Within f.q new
   turned_in c top from old new t hc hf ho zero = subst (λ n. n < f.q) (sym t.first) (l.prod_in _ _ hc (hf 0))

@@ -4,6 +4,6 @@ use Rattle.encoder.proofs.evaluate.Goals as goal
 
 pub returns : goal.returns
 returns g c =
-    let field = c.args.field.now in
-    evaluated (g.F.Field.means field) (g.met.F.Field.lawful field) c.args.first_root c.args.remainder.now c.powers.new.out c.args.out.now c.values.new.out
+    let field = c.args.over.now.field.now in
+    evaluated (g.F.Field.means field) (g.met.F.Field.lawful field) c.args.over.now.code.first c.args.remainder.now c.powers.new.out c.args.out.now c.values.new.out
     c.requires.symbols (omega arith) (omega arith) c.powers.ensures c.values.ensures

@@ -8,7 +8,7 @@ use Rattle.encoder.proofs.write_syndromes.Goals as goal
 
 pub divide-requires : goal.divide-requires
 divide-requires g c =
-    let field = c.args.field.now in
+    let field = c.args.over.now.field.now in
     let f = g.F.Field.means field in
     let l = g.met.F.Field.lawful field in
     let size : f.q ≡ g.row.Q = g.met.F.Fixed.size field in
@@ -22,10 +22,10 @@ divide-requires g c =
 
 pub returns-then-is_zero : goal.returns-then-is_zero
 returns-then-is_zero g c =
-    let field = c.args.field.now in
+    let field = c.args.over.now.field.now in
     let f = g.F.Field.means field in
     let l = g.met.F.Field.lawful field in
-    let sh = shape c.args.code.now in
+    let sh = shape c.args.over.now.code in
     let w = c.args.word.now in
     let row = c.divide.new.row in
     let k = length c.args.out.now - 0 in
@@ -38,10 +38,10 @@ returns-then-is_zero g c =
 
 pub evaluate-requires : goal.evaluate-requires
 evaluate-requires g c =
-    let field = c.args.field.now in
+    let field = c.args.over.now.field.now in
     let f = g.F.Field.means field in
     let l = g.met.F.Field.lawful field in
-    let sh = shape c.args.code.now in
+    let sh = shape c.args.over.now.code in
     let w = c.args.word.now in
     let row = c.divide.new.row in
     let k = length c.args.out.now - 0 in
@@ -50,10 +50,10 @@ evaluate-requires g c =
 
 pub returns : goal.returns
 returns g c =
-    let field = c.args.field.now in
+    let field = c.args.over.now.field.now in
     let f = g.F.Field.means field in
     let l = g.met.F.Field.lawful field in
-    let sh = shape c.args.code.now in
+    let sh = shape c.args.over.now.code in
     let w = c.args.word.now in
     let row = c.divide.new.row in
     let k = length c.args.out.now - 0 in
