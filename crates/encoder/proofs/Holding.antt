@@ -1,5 +1,5 @@
 -- What the register holds: with the part of the message that it took in, it is 0 at every root.
-use Rattle.std.proofs.Common.{◌≡◌, ℕ, suc, ◌+◌, ◌-◌, ◌<◌, ◌≤◌, List, ◌++◌, length, get_or, reverse, sym, refl, ap, ◌∙◌, subst, ap₂, add-zero, arith, length-append}
+use Rattle.std.proofs.Common.{◌≡◌, ℕ, suc, ◌+◌, ◌-◌, ◌<◌, List, ◌++◌, length, get_or, reverse, sym, refl, ap, ◌∙◌, subst, ap₂, add-zero, arith, length-append}
 use Prim.Native.Nat.{Fin}
 use native.Mathlib.Decide.{dec_lt}
 use Rattle.std.proofs.lemmas.List.{get_or_append_left, get_or-append_right, get_or-reverse, get_or_default, length-reverse}
