@@ -65,13 +65,14 @@ fn multiply<F: Field>(field: &F, c: u32, g: &mut [u32])
 fn generator<F: Fixed<Q, M>, const Q: u32, const M: u32>(over: &FieldCode<F, Q, M>) -> [u32; ROOM]
     ensures { Generates (F.Field.means over.now.field.now) (shape over.now.code).first (shape over.now.code).checks result }
 {
+    let field = over.field;
     let mut g = [0; ROOM];
     g[0] = 1;
-    let a = over.field.power(1);
-    let mut root = over.field.power(over.code.first_root() as u16);
+    let a = field.power(1);
+    let mut root = field.power(over.code.first_root() as u16);
     for j in 0..over.code.checks() as usize {
-        multiply(over.field, over.field.opposite(root), &mut g[0..j + 2]);
-        root = over.field.product(a, root);
+        multiply(field, field.opposite(root), &mut g[0..j + 2]);
+        root = field.product(a, root);
     }
     g
 }
@@ -88,12 +89,12 @@ fn divide<F: Fixed<Q, M>, const Q: u32, const M: u32>(
     requires symbols { Within (F.Field.means over.now.field.now).q row.old }
     ensures { Divided (F.Field.means over.now.field.now) (shape over.now.code).first (shape over.now.code).checks row.old row.new }
 {
+    let field = over.field;
     let checks = over.code.checks() as usize;
-    // By index: each step writes to places that the next ones read, and no iterator lends places that overlap.
+    // By index: the parts of the row that the steps write to overlap, and no iterator lends such parts.
     for i in (checks..row.len()).rev() {
-        let c = over.field.opposite(row[i]);
-        over.field
-            .add_multiple(c, &generator[0..checks], &mut row[i - checks..i]);
+        let c = field.opposite(row[i]);
+        field.add_multiple(c, &generator[0..checks], &mut row[i - checks..i]);
     }
 }
 
@@ -106,14 +107,14 @@ fn lay_checks<F: Fixed<Q, M>, const Q: u32, const M: u32>(
     requires symbols { all_below Q word.old ≡ true }
     ensures { Encodes (F.Field.means over.now.field.now) (shape over.now.code) word.old word.new }
 {
+    let field = over.field;
     let g = generator(over);
-    let (register, message) = word.split_at_mut(over.code.checks() as usize);
+    let checks = over.code.checks() as usize;
+    let (register, message) = word.split_at_mut(checks);
     register.fill(0);
     for x in message.iter().rev() {
-        let c = over
-            .field
-            .sum(*x, over.field.opposite(register[register.len() - 1]));
-        turn(over.field, c, &g, register);
+        let c = field.sum(*x, field.opposite(register[checks - 1]));
+        turn(field, c, &g, register);
     }
 }
 

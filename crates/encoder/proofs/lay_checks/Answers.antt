@@ -39,7 +39,7 @@ turn-requires g c =
     record {
       some = omega arith;
       read = omega arith;
-      factor = (fed_back f l _ _ _ (length c.loop-x.register - 1) c.loop-x.register x_in v_in c.opposite.ensures.within c.sum-c.ensures.within).1;
+      factor = (fed_back f l _ _ _ (c.checks-checks.result - 1) c.loop-x.register x_in v_in c.opposite.ensures.within c.sum-c.ensures.within).1;
       symbols = c.generator-g.ensures.within;
       held = v_in;
     }
@@ -65,11 +65,12 @@ loop-x-preserved g c =
     let low : n < length m = p.0 in
     let x_in : c.in-Some.x.now < f.q = rw p.1 (m_in _) in
     let er : code.checks ≡ suc r = omega arith in
-    let et : length old - 1 ≡ r = omega arith in
+    let et : c.checks-checks.result - 1 ≡ r = omega arith in
+    let en : length old - 1 ≡ r = omega arith in
     let ei : length m - n ≡ suc i = omega arith in
     let h : Holding f b (suc r) (suc i) m old = subst (λ k. Holding f b k (suc i) m old) er (subst (λ k. Holding f b code.checks k m old) ei c.loop-x.invariant) in
-    let fed = fed_back f l _ _ _ (length old - 1) old x_in h.within c.opposite.ensures.within c.sum-c.ensures.within in
-    let t : Turned f c.sum-c.result r c.generator-g.result old new = subst (λ k. Turned f c.sum-c.result k c.generator-g.result old new) et c.turn.ensures in
+    let fed = fed_back f l _ _ _ (c.checks-checks.result - 1) old x_in h.within c.opposite.ensures.within c.sum-c.ensures.within in
+    let t : Turned f c.sum-c.result r c.generator-g.result old new = subst (λ k. Turned f c.sum-c.result k c.generator-g.result old new) en c.turn.ensures in
     subst (λ k. Holding f b code.checks k m new) (omega (arith, length_push c.loop-x.yielded c.in-Some.x))
     (subst (λ k. Holding f b k i m new) (sym er)
     (holding_more f l b r i c.sum-c.result c.in-Some.x.now c.generator-g.result m old new (subst (λ k. Generates f b k c.generator-g.result) er c.generator-g.ensures) m_in h (omega arith) p.1
@@ -87,7 +88,7 @@ returns g c =
     let word : Word f.q code.n w = record { long = c.requires.long; symbols = subst (λ q. all_below q w ≡ true) (sym size) c.requires.symbols } in
     let fits = c.args.over.now.fits in
     let t = (YieldsList-end (YieldsList-from_rev_slice m cc) c.loop-x.yielded _ c.loop-x.yielded_by _ _ c.in-None.is c.next.ensures.steps).1 in
-    let rest : c.split_at_mut-register.result.1.now ≡ m = c.split_at_mut-register.ensures.back ∙ ap (λ k. drop k w) c.checks.ensures in
+    let rest : c.split_at_mut-register.result.1.now ≡ m = c.split_at_mut-register.ensures.back ∙ ap (λ k. drop k w) c.checks-checks.ensures in
     subst (λ xs. Encodes f code w (c.loop-x.register ++ xs)) (sym rest)
     (encodes f l code w c.loop-x.register (omega arith) (omega arith) word (omega arith)
     (subst (λ k. Holding f code.first code.checks k m c.loop-x.register) (omega (arith, t, length-reverse m)) c.loop-x.invariant))
