@@ -1,6 +1,8 @@
 -- What the register holds: with the part of the message that it took in, it is 0 at every root.
-use Rattle.std.proofs.Common.{◌≡◌, ℕ, suc, ◌+◌, ◌-◌, ◌<◌, ◌≤◌, List, get_or, sym, refl, ap, ◌∙◌, subst, ap₂, add-zero, arith}
+use Rattle.std.proofs.Common.{◌≡◌, ℕ, suc, ◌+◌, ◌-◌, ◌<◌, List, ◌++◌, length, get_or, reverse, sym, refl, ap, ◌∙◌, subst, ap₂, add-zero, arith, length-append}
 use Prim.Native.Nat.{Fin}
+use native.Mathlib.Decide.{dec_lt}
+use Rattle.std.proofs.lemmas.List.{get_or_append_left, get_or-append_right, get_or-reverse, get_or_default, length-reverse}
 use Rattle.field.specs.Meaning.{Meaning, Laws}
 use Rattle.field.specs.Symbols.{Within}
 use Rattle.field.specs.Sums.{value}
@@ -10,15 +12,26 @@ use Rattle.algebra.specs.Field.{Field}
 use Rattle.algebra.proofs.Convolution as C
 use Rattle.algebra.proofs.Roots as R
 use Rattle.algebra.proofs.Division as D
-use Rattle.encoder.specs.Register.{Turned, Generates, Cleared}
+use Rattle.encoder.specs.Register.{Turned, Generates}
 use Rattle.encoder.proofs.Turns as T
 
--- the word with its places r .. i - 1 cut out is 0 at each root
-pub record Holding (f : Meaning) (b r n i : ℕ) (w v : List ℕ) : Type 0 where
+-- the register v with the message m from its place i on is 0 at each root
+pub record Holding (f : Meaning) (b r i : ℕ) (m v : List ℕ) : Type 0 where
   pub within : Within f.q v
-  pub message : (k : ℕ) → r ≤ k → get_or v k 0 ≡ get_or w k 0
   pub zeros : (l : Laws f) (j : ℕ) → j < r → (lift f l).◌⊕◌ (R.ev (lift f l) r (poly f l v) (B.root f l (b + j)))
-      ((lift f l).◌⊗◌ (R.pow (lift f l) (B.root f l (b + j)) r) (R.ev (lift f l) (n - i) (λ k. poly f l w (i + k)) (B.root f l (b + j)))) ≡ (lift f l).𝟘
+      ((lift f l).◌⊗◌ (R.pow (lift f l) (B.root f l (b + j)) r) (R.ev (lift f l) (length m - i) (λ k. poly f l m (i + k)) (B.root f l (b + j)))) ≡ (lift f l).𝟘
+
+pub append_in : (q : ℕ) (v m : List ℕ) → Within q v → Within q m → Within q (v ++ m)
+append_in q v m hv hm i = elim (dec_lt i (length v)) [
+  | yes h ↦ rw (get_or_append_left v m 0 i h) (hv i)
+  | no h ↦ rw (get_or-append_right v m (length v) i 0 refl (omega arith)) (hm (i - length v))
+]
+
+-- what comes n places before the last
+pub from_end : (m : List ℕ) (n x : ℕ) → n < length (reverse m) → x ≡ get_or (reverse m) n x → (n < length m) × (x ≡ get_or m (length m - 1 - n) 0)
+from_end m n x h e =
+    let low : n < length m = omega (arith, length-reverse m) in
+    (low, e ∙ get_or-reverse m n x low ∙ get_or_default m _ x 0 (omega arith))
 
 module _ (f : Meaning) (l : Laws f) where
   abbrev F : Field (Fin f.q)
@@ -27,52 +40,64 @@ module _ (f : Meaning) (l : Laws f) where
   abbrev s : ℕ → Fin f.q
   s = sym_of f l
 
-  pub holding_start : (b r n : ℕ) (w v : List ℕ) → Cleared r w v → Within f.q w → Holding f b r n n v v
-  holding_start b r n w v e h = record {
-    within = T.cleared_in f l r w v e h;
-    message = λ k z. refl;
-    zeros = λ l j k. ap₂ (lift f l).◌⊕◌ (D.ev_zero (lift f l) r _ _ (λ i z. B.nil_to f l _ (e.done i z)))
-        (ap (λ d. (lift f l).◌⊗◌ (R.pow (lift f l) (B.root f l (b + j)) r) (R.ev (lift f l) d (λ k. poly f l v (n + k)) (B.root f l (b + j)))) (omega arith)
+  pub holding_start : (b r : ℕ) (m v : List ℕ) → ((i : ℕ) → get_or v i 0 ≡ 0) → Holding f b r (length m) m v
+  holding_start b r m v e = record {
+    within = λ i. rw (e i) (omega (arith, l.q_low));
+    zeros = λ l j k. ap₂ (lift f l).◌⊕◌ (D.ev_zero (lift f l) r _ _ (λ i z. B.nil_to f l _ (e i)))
+        (ap (λ d. (lift f l).◌⊗◌ (R.pow (lift f l) (B.root f l (b + j)) r) (R.ev (lift f l) d (λ k. poly f l m (length m + k)) (B.root f l (b + j)))) (omega arith)
         ∙ ap ((lift f l).◌⊗◌ _) (D.ev_o (lift f l) _ _) ∙ C.mul_o (lift f l) _) ∙ C.add_o (lift f l) _;
   }
 
-  pub holding_more : (b r n i c : ℕ) (g w old new : List ℕ) → Generates f b (suc r) g → Holding f b (suc r) n (suc i) w old → r < i → i < n
-      → c ≡ f.sum (get_or old i 0) (f.opp (get_or old r 0)) → Turned f c r g old new → Holding f b (suc r) n i w new
-  holding_more b r n i c g w old new gen h hi hn ce t = record {
+  -- what goes back into the register with the symbol x
+  pub fed_back : (x o c t : ℕ) (v : List ℕ) → x < f.q → Within f.q v → (get_or v t 0 < f.q → o ≡ f.opp (get_or v t 0)) → (x < f.q → o < f.q → c ≡ f.sum x o)
+      → (c ≡ f.sum x (f.opp (get_or v t 0))) × (c < f.q)
+  fed_back x o c t v x_in v_in eo ec =
+      let o_is = eo (v_in t) in
+      let o_in : o < f.q = rw o_is (l.opp_in _ (v_in t)) in
+      (ec x_in o_in ∙ ap (f.sum x) o_is, rw (ec x_in o_in) (l.sum_in _ _ x_in o_in))
+
+  pub holding_more : (b r i c x : ℕ) (g m old new : List ℕ) → Generates f b (suc r) g → Within f.q m → Holding f b (suc r) (suc i) m old → i < length m
+      → x ≡ get_or m i 0 → c ≡ f.sum x (f.opp (get_or old r 0)) → Turned f c r g old new → Holding f b (suc r) i m new
+  holding_more b r i c x g m old new gen m-in h hi ex ce t = record {
     within = T.turned_in f l c r g old new t c_in gen.within h.within;
-    message = λ k z. t.rest k (omega arith) ∙ h.message k z;
     zeros = each;
   }
     where
       o_in : f.opp (get_or old r 0) < f.q
       o_in = l.opp_in _ (h.within r)
 
+      x_in : x < f.q
+      x_in = rw ex (m-in i)
+
       c_in : c < f.q
-      c_in = subst (λ n. n < f.q) (sym ce) (l.sum_in _ _ (h.within i) o_in)
+      c_in = rw ce (l.sum_in _ _ x_in o_in)
 
       each : (l : Laws f) (j : ℕ) → j < suc r → (lift f l).◌⊕◌ (R.ev (lift f l) (suc r) (poly f l new) (B.root f l (b + j)))
-          ((lift f l).◌⊗◌ (R.pow (lift f l) (B.root f l (b + j)) (suc r)) (R.ev (lift f l) (n - i) (λ k. poly f l w (i + k)) (B.root f l (b + j)))) ≡ (lift f l).𝟘
+          ((lift f l).◌⊗◌ (R.pow (lift f l) (B.root f l (b + j)) (suc r)) (R.ev (lift f l) (length m - i) (λ k. poly f l m (i + k)) (B.root f l (b + j)))) ≡ (lift f l).𝟘
       each l j k =
           let F = lift f l in
           let z = B.root f l (b + j) in
-          let d = n - suc i in
-          let e : n - i ≡ suc d = omega arith in
-          let tail : ℕ → Fin f.q = λ k. poly f l w (i + k) in
+          let d = length m - suc i in
+          let e : length m - i ≡ suc d = omega arith in
+          let tail : ℕ → Fin f.q = λ k. poly f l m (i + k) in
           let c_is : sym_of f l c ≡ F.◌⊕◌ (tail 0) (F.neg (poly f l old r)) =
-          ap (sym_of f l) ce ∙ B.sum_of f l _ _ (h.within i) o_in
-          ∙ ap₂ F.◌⊕◌ (ap (sym_of f l) (h.message i (omega arith) ∙ ap (λ k. get_or w k 0) (sym (add-zero i)))) (B.opp_of f l _ (h.within r)) in
-          ap (λ m. F.◌⊕◌ (R.ev F (suc r) (poly f l new) z) (F.◌⊗◌ (R.pow F z (suc r)) (R.ev F m tail z))) e
+          ap (sym_of f l) ce ∙ B.sum_of f l _ _ x_in o_in
+          ∙ ap₂ F.◌⊕◌ (ap (sym_of f l) (ex ∙ ap (λ k. get_or m k 0) (sym (add-zero i)))) (B.opp_of f l _ (h.within r)) in
+          ap (λ n. F.◌⊕◌ (R.ev F (suc r) (poly f l new) z) (F.◌⊗◌ (R.pow F z (suc r)) (R.ev F n tail z))) e
           ∙ D.takes_more F r d (poly f l g) (poly f l old) (poly f l new) tail z
           (subst (λ u. D.Turned F u (suc r) (poly f l g) (poly f l old) (poly f l new)) c_is (T.turned_poly f l c r g old new t c_in gen.within h.within))
           (ap (sym_of f l) gen.top ∙ B.one_of f l)
           (sym (B.value_of f l (suc (suc r)) g (b + j) gen.within) ∙ B.nil_to f l _ (gen.roots j k))
-          (ap (λ u. F.◌⊕◌ (R.ev F (suc r) (poly f l old) z) (F.◌⊗◌ (R.pow F z (suc r)) u)) (D.ev_cong F d _ _ z (λ k y. ap (λ m. poly f l w m) (omega arith))) ∙ h.zeros l j k)
+          (ap (λ u. F.◌⊕◌ (R.ev F (suc r) (poly f l old) z) (F.◌⊗◌ (R.pow F z (suc r)) u)) (D.ev_cong F d _ _ z (λ k y. ap (λ n. poly f l m n) (omega arith))) ∙ h.zeros l j k)
 
   -- at the end every check sum is 0
-  pub holding_end : (b r n : ℕ) (w v : List ℕ) → Holding f b r n r w v → r ≤ n → (j : ℕ) → j < r → value f n v (b + j) ≡ 0
-  holding_end b r n w v h hr j k =
-      B.nil_of f l _ (B.value_in f l n v (b + j) h.within)
-      (B.value_of f l n v (b + j) h.within ∙ ap (λ m. R.ev F m (poly f l v) (B.root f l (b + j))) (omega arith)
-      ∙ D.ev_split F r (n - r) (poly f l v) (B.root f l (b + j))
-      ∙ ap (λ u. F.◌⊕◌ (R.ev F r (poly f l v) (B.root f l (b + j))) (F.◌⊗◌ (R.pow F (B.root f l (b + j)) r) u)) (D.ev_cong F (n - r) _ _ _ (λ i y. ap s (h.message (r + i) (omega arith))))
+  pub holding_end : (b r : ℕ) (m v : List ℕ) → length v ≡ r → Within f.q m → Holding f b r 0 m v → (j : ℕ) → j < r → value f (length (v ++ m)) (v ++ m) (b + j) ≡ 0
+  holding_end b r m v long m-in h j k =
+      let w_in = append_in f.q v m h.within m-in in
+      B.nil_of f l _ (B.value_in f l (length (v ++ m)) (v ++ m) (b + j) w_in)
+      (B.value_of f l (length (v ++ m)) (v ++ m) (b + j) w_in ∙ ap (λ n. R.ev F n (poly f l (v ++ m)) (B.root f l (b + j))) (length-append v m ∙ omega arith)
+      ∙ D.ev_split F r (length m - 0) (poly f l (v ++ m)) (B.root f l (b + j))
+      ∙ ap₂ (λ t u. F.◌⊕◌ t (F.◌⊗◌ (R.pow F (B.root f l (b + j)) r) u))
+      (D.ev_cong F r _ _ _ (λ i y. ap s (get_or_append_left v m 0 i (omega arith))))
+      (D.ev_cong F (length m - 0) _ _ _ (λ i y. ap s (get_or-append_right v m r (r + i) 0 long (omega arith) ∙ ap (λ n. get_or m n 0) (omega arith))))
       ∙ h.zeros l j k)

@@ -1,13 +1,14 @@
 -- What a remainder says of a word: its values at the roots are the word's check sums.
-use Rattle.std.proofs.Common.{◌≡◌, ℕ, zero, suc, ◌+◌, ◌*◌, ◌<◌, ◌≤◌, Bool, true, false, eqb, List, length, get_or, take, sym, refl, ap, ◌∙◌, ap₂, inl, inr, mul-one, arith, get_or-take, eq-eqb, eqb-true}
-use Rattle.std.proofs.lemmas.List.{get_or_past}
-use Rattle.std.proofs.lemmas.Bool.{cases_lt}
+use Rattle.std.proofs.Common.{◌≡◌, ℕ, zero, suc, ◌+◌, ◌*◌, ◌<◌, ◌≤◌, true, ◌&&◌, eqb, List, [], ◌∷◌, length, get_or, take, sym, refl, ap, ◌∙◌, ap₂, add-one, mul-one, arith, get_or-take, eqb-true}
+use Rattle.std.specs.List.{list_all}
+use Rattle.std.proofs.lemmas.List.{get_or_past, take_all}
+use Rattle.std.proofs.lemmas.List.Folds.{list_all_more}
+use Rattle.std.proofs.lemmas.Bool.{and_parts}
 use Rattle.algebra.proofs.Division as D
 use Rattle.field.specs.Meaning.{Meaning, Laws, pow}
-use Rattle.field.specs.Symbols.{all_below, Within}
+use Rattle.field.specs.Symbols.{Within}
 use Rattle.field.specs.Sums.{sum_of, value}
 use Rattle.field.specs.Lifted.{lift, poly}
-use Rattle.field.proofs.Symbols.{below_from, within_from}
 use Rattle.field.proofs.Parts.{cut}
 use Rattle.field.proofs.Powers as P
 use Rattle.field.proofs.Lifting as B
@@ -15,25 +16,22 @@ use Rattle.evaluation.specs.Values.{Powers, Values}
 use Rattle.evaluation.proofs.Valuing.{value_at_power}
 use Rattle.code.specs.Shape.{Shape}
 use Rattle.code.specs.Words.{every, check_sum, codeword}
-use Rattle.code.proofs.Decided.{every_at, every_from, is_codeword}
+use Rattle.code.proofs.Decided.{is_codeword}
 use Rattle.encoder.specs.Syndromes.{Summed}
-use Rattle.encoder.specs.Register.{Cleared, Divided, Evaluated}
-
--- two tests that imply each other
-same_test : (a b : Bool) → (a ≡ true → b ≡ true) → (b ≡ true → a ≡ true) → a ≡ b
-same_test true b there back = sym (there refl)
-same_test false true there back = back refl
-same_test false false there back = refl
+use Rattle.encoder.specs.Register.{Divided, Evaluated}
 
 -- all numbers are 0
-pub zeros_at : (row : List ℕ) → all_below 1 row ≡ true → (i : ℕ) → get_or row i 0 ≡ 0
-zeros_at row e i = let h = within_from 1 row (omega arith) e i in omega arith
+pub all_zero : (row : List ℕ) → list_all (λ x. eqb x 0) row ≡ true → (i : ℕ) → get_or row i 0 ≡ 0
+all_zero [] e i = refl
+all_zero (x ∷ row) e zero = eqb-true x 0 (and_parts (eqb x 0) (list_all (λ y. eqb y 0) row) e).0
+all_zero (x ∷ row) e (suc i) = all_zero row (and_parts (eqb x 0) (list_all (λ y. eqb y 0) row) e).1 i
 
 -- testing the numbers of a row is testing what they are
-pub zero_test : (n : ℕ) (row : List ℕ) (h : ℕ → ℕ) → length row ≡ n → ((j : ℕ) → j < n → get_or row j 0 ≡ h j) → all_below 1 row ≡ every n (λ j. eqb (h j) 0)
-zero_test n row h long is = same_test (all_below 1 row) (every n (λ j. eqb (h j) 0))
-    (λ e. every_from (λ j. eqb (h j) 0) n (λ j k. eq-eqb (h j) 0 (sym (is j k) ∙ zeros_at row e j)))
-    (λ e. below_from 1 row (λ j k. let z : h j ≡ 0 = eqb-true (h j) 0 (every_at (λ j. eqb (h j) 0) n e j (omega arith)) in rw (is j (omega arith) ∙ z) (omega arith)))
+pub zero_test : (n : ℕ) (row : List ℕ) (h : ℕ → ℕ) → n ≤ length row → ((j : ℕ) → j < n → get_or row j 0 ≡ h j) → list_all (λ x. eqb x 0) (take n row) ≡ every n (λ j. eqb (h j) 0)
+zero_test zero row h long is = refl
+zero_test (suc n) row h long is =
+    ap (λ m. list_all (λ x. eqb x 0) (take m row)) (sym (add-one n)) ∙ list_all_more (λ x. eqb x 0) row n 0 (omega arith)
+    ∙ ap₂ ◌&&◌ (zero_test n row h (omega arith) (λ j k. is j (omega arith))) (ap (λ x. eqb x 0) (is n (omega arith)))
 
 module _ (f : Meaning) (l : Laws f) where
   -- values at the row of roots
@@ -51,42 +49,26 @@ module _ (f : Meaning) (l : Laws f) where
   value_zero : (n : ℕ) (w : List ℕ) (t : ℕ) → Within f.q w → ((i : ℕ) → i < n → get_or w i 0 ≡ 0) → value f n w t ≡ 0
   value_zero n w t w_in e = B.nil_of f l _ (B.value_in f l n w t w_in) (B.value_of f l n w t w_in ∙ D.ev_zero (lift f l) n (poly f l w) _ (λ i h. B.nil_to f l _ (e i h)))
 
-  module _ (c : Shape) (w row part : List ℕ) (d : Divided f c.first c.checks w row) (long : c.checks ≤ length row) (k : ℕ) (is : k ≡ c.checks) (part-is : part ≡ take k row) where
-    part_long : length part ≡ c.checks
-    part_long = ap length part-is ∙ ap (λ (n : ℕ). length (take n row)) is ∙ cut c.checks row long
+  -- a remainder of zeros
+  pub zero_values : (b : ℕ) (w new : List ℕ) → list_all (λ x. eqb x 0) w ≡ true → ((j : ℕ) → get_or new j 0 ≡ 0) → Evaluated f b w new
+  zero_values b w new e zeros j h = zeros j ∙ sym (value_zero (length w) w (b + j) (λ i. rw (all_zero w e i) (omega (arith, l.q_low))) (λ i _. all_zero w e i))
 
-    part_at : (i : ℕ) → i < c.checks → get_or part i 0 ≡ get_or row i 0
-    part_at i h = ap (λ (xs : List ℕ). get_or xs i 0) part-is ∙ get_or-take k row i 0 (omega arith)
+  -- what the values of a remainder at the roots say of the word
+  module _ (c : Shape) (w row : List ℕ) (k : ℕ) (d : Divided f c.first c.checks w row) (is : k ≡ c.checks) (long : c.checks ≤ length row)
+      (old new : List ℕ) (lo : length old ≡ c.checks) (ln : length new ≡ c.checks) (vs : Evaluated f c.first (take k row) new) where
+    part_long : c.checks ≡ length (take k row)
+    part_long = sym (cut k row (omega arith) ∙ is)
 
-    pub part_in : Within f.q part
-    part_in i = elim (cases_lt i c.checks) [
-      | inl h ↦ rw (part_at i h) (d.within i)
-      | inr h ↦ rw (get_or_past part i 0 (let e = part_long in omega arith)) (omega (arith, l.q_low))
-    ]
+    at : (j : ℕ) → j < c.checks → get_or new j 0 ≡ check_sum f c w j
+    at j h =
+        vs j (omega arith) ∙ ap (λ n. value f n (take k row) (c.first + j)) (sym part_long)
+        ∙ value_cong c.checks (take k row) row (c.first + j) (λ i y. get_or-take k row i 0 (omega arith)) ∙ sym (d.values j h)
 
-    -- the check sums are the values of the remainder
-    sums_are : (j : ℕ) → j < c.checks → check_sum f c w j ≡ value f (length part) part (c.first + j)
-    sums_are j h =
-        d.values j h ∙ sym (value_cong c.checks part row (c.first + j) part_at) ∙ ap (λ n. value f n part (c.first + j)) (sym part_long)
+    pub values_pass : list_all (λ x. eqb x 0) new ≡ codeword f c w
+    values_pass = ap (list_all (λ x. eqb x 0)) (sym (take_all c.checks new (omega arith))) ∙ zero_test c.checks new (check_sum f c w) (omega arith) at
 
-    -- a remainder of zeros
-    module _ (zeros : all_below 1 part ≡ true) where
-      sums_zero : (j : ℕ) → j < c.checks → check_sum f c w j ≡ 0
-      sums_zero j h = sums_are j h ∙ value_zero (length part) part (c.first + j) part_in (λ i _. zeros_at part zeros i)
+    pub values_sums : Summed f c w old new
+    values_sums = record { done = at; rest = λ j h. get_or_past new j 0 (omega arith) ∙ sym (get_or_past old j 0 (omega arith)) }
 
-      pub zero_passes : true ≡ codeword f c w
-      zero_passes = sym (is_codeword f c w sums_zero)
-
-      pub zero_sums : (old new : List ℕ) (n : ℕ) → n ≡ c.checks → Cleared n old new → Summed f c w old new
-      zero_sums old new n e cl = record { done = λ j h. cl.done j (omega arith) ∙ sym (sums_zero j h); rest = λ j h. cl.rest j (omega arith) }
-
-    -- any remainder, by its values at the roots
-    module _ (old new : List ℕ) (lo : length old ≡ c.checks) (ln : length new ≡ c.checks) (vs : Evaluated f c.first part new) where
-      at : (j : ℕ) → j < c.checks → get_or new j 0 ≡ check_sum f c w j
-      at j h = vs j (omega arith) ∙ sym (sums_are j h)
-
-      pub values_pass : all_below 1 new ≡ codeword f c w
-      values_pass = zero_test c.checks new (check_sum f c w) ln at
-
-      pub values_sums : Summed f c w old new
-      values_sums = record { done = at; rest = λ j h. get_or_past new j 0 (omega arith) ∙ sym (get_or_past old j 0 (omega arith)) }
+    pub zeros_pass : ((j : ℕ) → get_or new j 0 ≡ 0) → true ≡ codeword f c w
+    zeros_pass zeros = sym (is_codeword f c w (λ j h. sym (at j h) ∙ zeros j))

@@ -1,5 +1,5 @@
 -- Internal: what the private steps of the encoder do to rows of symbols. No public promise cites these.
-use Rattle.std.specs.Prelude.{◌≡◌, ℕ, suc, ◌+◌, ◌<◌, ◌≤◌, List, length, slice_index, slice_index_or}
+use Rattle.std.specs.Prelude.{◌≡◌, ℕ, suc, ◌+◌, ◌<◌, List, length, slice_index, slice_index_or}
 use Rattle.field.specs.Meaning.{Meaning}
 use Rattle.field.specs.Symbols.{Within}
 use Rattle.field.specs.Sums.{value}
@@ -16,11 +16,6 @@ pub record Generates (f : Meaning) (b k : ℕ) (g : List ℕ) : Type 0 where
   pub top : slice_index_or g k 0 ≡ 1
   pub above : (i : ℕ) → k < i → slice_index g i ≡ 0
   pub roots : (j : ℕ) → j < k → value f (suc k) g (b + j) ≡ 0
-
--- new is 0 in the first n places, and old after them
-pub record Cleared (n : ℕ) (old new : List ℕ) : Type 0 where
-  pub done : (i : ℕ) → i < n → slice_index new i ≡ 0
-  pub rest : (i : ℕ) → n ≤ i → slice_index new i ≡ slice_index old i
 
 -- at each of the k roots from a^b on, the first k places of new have the value of all of old
 pub record Divided (f : Meaning) (b k : ℕ) (old new : List ℕ) : Type 0 where

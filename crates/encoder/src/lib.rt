@@ -4,7 +4,8 @@
 // And syndromes, the check sums of a word all at once, from what a division by the generator polynomial leaves.
 #![tactic(auto)]
 
-ghost use Rattle.std.specs.Prelude.{◌≡◌, ◌<◌, ◌≤◌, true, length, None, Ok, MatchResult, OnErr};
+ghost use Rattle.std.specs.Prelude.{◌≡◌, ◌-◌, ◌<◌, ◌≤◌, true, length, None, Ok, MatchResult, OnErr, nat_eq};
+ghost use Rattle.std.specs.List.{list_all};
 ghost use Rattle.field.specs.Symbols.{all_below, Within};
 ghost use Rattle.code.specs.Shape.{shape};
 ghost use Rattle.code.specs.Refusals.{numbered};
@@ -12,90 +13,85 @@ ghost use Rattle.code.specs.Fitting.{fitting};
 ghost use Rattle.code.specs.Words.{failing_root, codeword};
 ghost use Rattle.encoder.specs.Encodes.{Encodes};
 ghost use Rattle.encoder.specs.Syndromes.{Summed, summing};
-ghost use Rattle.encoder.specs.Register.{Turned, Generates, Cleared, Divided, Evaluated};
+ghost use Rattle.encoder.specs.Register.{Turned, Generates, Divided, Evaluated};
 
-use code::word::{fit, is_below};
-use code::{Code, Refusal};
+use code::{Code, FieldCode, Refusal};
 use evaluation::{powers, values};
 use field::{Field, Fixed};
-
-// A generator has one coefficient more than a code has checks.
-const ROOM: usize = Code::MOST_CHECKS as usize + 1;
 
 // Room for a symbol for each check of the largest code.
 const CHECKS: usize = Code::MOST_CHECKS as usize;
 
+// A generator has one coefficient more than a code has checks.
+const ROOM: usize = CHECKS + 1;
+
 // Room for the largest word.
 const POSITIONS: usize = Code::MOST_POSITIONS as usize;
 
-// to := x · to + c · from, in the places up to `top`; what stood at `top` is lost.
-fn turn<F: Field>(field: &F, c: u32, from: &[u32], to: &mut [u32], top: usize)
-    requires read { top < length from.now }
-    requires written { top < length to.old }
+// to := x · to + c · from, as far as `to` goes; what stood at its top is lost.
+fn turn<F: Field>(field: &F, c: u32, from: &[u32], to: &mut [u32])
+    requires some { 0 < length to.old }
+    requires read { length to.old ≤ length from.now }
     requires factor { c < (F.Field.means field.now).q }
     requires symbols { Within (F.Field.means field.now).q from.now }
     requires held { Within (F.Field.means field.now).q to.old }
-    ensures { Turned (F.Field.means field.now) c top from.now to.old to.new }
+    ensures { Turned (F.Field.means field.now) c (length to.old - 1) from.now to.old to.new }
 {
-    for i in (0..top).rev() {
-        to[i + 1] = field.sum(to[i], field.product(c, from[i + 1]));
+    let mut below = 0;
+    for (i, x) in to.iter_mut().enumerate() {
+        let here = *x;
+        *x = field.sum(below, field.product(c, from[i]));
+        below = here;
     }
-    to[0] = field.product(c, from[0]);
 }
 
-// g := (x + c) · g, in the places up to `top`.
-fn multiply<F: Field>(field: &F, c: u32, g: &mut [u32], top: usize)
-    requires written { top < length g.old }
+// g := (x + c) · g, as far as `g` goes.
+// Not `turn`, which reads its other row while it writes: here both are one, and a closure for what is read would be longer.
+fn multiply<F: Field>(field: &F, c: u32, g: &mut [u32])
+    requires some { 0 < length g.old }
     requires factor { c < (F.Field.means field.now).q }
     requires symbols { Within (F.Field.means field.now).q g.old }
-    ensures { Turned (F.Field.means field.now) c top g.old g.old g.new }
+    ensures { Turned (F.Field.means field.now) c (length g.old - 1) g.old g.old g.new }
 {
-    for i in (0..top).rev() {
-        g[i + 1] = field.sum(g[i], field.product(c, g[i + 1]));
+    let mut below = 0;
+    for x in g.iter_mut() {
+        let here = *x;
+        *x = field.sum(below, field.product(c, here));
+        below = here;
     }
-    g[0] = field.product(c, g[0]);
 }
 
 // The generator: the polynomial with each root of the code once, and leading coefficient 1.
-fn generator<F: Fixed<Q, M>, const Q: u32, const M: u32>(field: &F, code: &Code) -> [u32; ROOM]
-    requires { (shape code.now).first < M }
-    ensures { Generates (F.Field.means field.now) (shape code.now).first (shape code.now).checks result }
+fn generator<F: Fixed<Q, M>, const Q: u32, const M: u32>(over: &FieldCode<F, Q, M>) -> [u32; ROOM]
+    ensures { Generates (F.Field.means over.now.field.now) (shape over.now.code).first (shape over.now.code).checks result }
 {
+    let field = over.field;
     let mut g = [0; ROOM];
     g[0] = 1;
     let a = field.power(1);
-    let mut root = field.power(code.first_root() as u16);
-    for j in 0..code.checks() {
-        multiply(field, field.opposite(root), &mut g, j as usize + 1);
+    let mut root = field.power(over.code.first_root() as u16);
+    for j in 0..over.code.checks() as usize {
+        multiply(field, field.opposite(root), &mut g[0..j + 2]);
         root = field.product(a, root);
     }
     g
 }
 
-// Writes 0 into the first `size` places.
-fn clear(xs: &mut [u32], size: usize)
-    requires { size ≤ length xs.old }
-    ensures { Cleared size xs.old xs.new }
-{
-    for i in 0..size {
-        xs[i] = 0;
-    }
-}
-
 // Takes multiples of the generator off a row, from its top place down: what then stands in the places of the checks has the
 // value of the whole row at each root.
 fn divide<F: Fixed<Q, M>, const Q: u32, const M: u32>(
-    field: &F,
-    code: &Code,
+    over: &FieldCode<F, Q, M>,
     generator: &[u32; ROOM],
     row: &mut [u32],
 )
-    requires generates { Generates (F.Field.means field.now) (shape code.now).first (shape code.now).checks generator.now }
-    requires long { length row.old ≡ (shape code.now).n }
-    requires symbols { Within (F.Field.means field.now).q row.old }
-    ensures { Divided (F.Field.means field.now) (shape code.now).first (shape code.now).checks row.old row.new }
+    requires generates { Generates (F.Field.means over.now.field.now) (shape over.now.code).first (shape over.now.code).checks generator.now }
+    requires long { length row.old ≡ (shape over.now.code).n }
+    requires symbols { Within (F.Field.means over.now.field.now).q row.old }
+    ensures { Divided (F.Field.means over.now.field.now) (shape over.now.code).first (shape over.now.code).checks row.old row.new }
 {
-    let checks = code.checks() as usize;
+    let field = over.field;
+    let checks = over.code.checks() as usize;
+    // By index: the parts of the row that the steps write to overlap, and no iterator lends such parts.
     for i in (checks..row.len()).rev() {
         let c = field.opposite(row[i]);
         field.add_multiple(c, &generator[0..checks], &mut row[i - checks..i]);
@@ -103,19 +99,22 @@ fn divide<F: Fixed<Q, M>, const Q: u32, const M: u32>(
 }
 
 // Lays the checks of a word that fits: takes in the message from its top symbol down.
-fn lay_checks<F: Fixed<Q, M>, const Q: u32, const M: u32>(field: &F, code: &Code, word: &mut [u32])
-    requires start { (shape code.now).first < M }
-    requires round { (shape code.now).n ≤ M }
-    requires long { length word.old ≡ (shape code.now).n }
+fn lay_checks<F: Fixed<Q, M>, const Q: u32, const M: u32>(
+    over: &FieldCode<F, Q, M>,
+    word: &mut [u32],
+)
+    requires long { length word.old ≡ (shape over.now.code).n }
     requires symbols { all_below Q word.old ≡ true }
-    ensures { Encodes (F.Field.means field.now) (shape code.now) word.old word.new }
+    ensures { Encodes (F.Field.means over.now.field.now) (shape over.now.code) word.old word.new }
 {
-    let g = generator(field, code);
-    let checks = code.checks() as usize;
-    clear(word, checks);
-    for i in (checks..word.len()).rev() {
-        let c = field.sum(word[i], field.opposite(word[checks - 1]));
-        turn(field, c, &g, word, checks - 1);
+    let field = over.field;
+    let g = generator(over);
+    let checks = over.code.checks() as usize;
+    let (register, message) = word.split_at_mut(checks);
+    register.fill(0);
+    for x in message.iter().rev() {
+        let c = field.sum(*x, field.opposite(register[checks - 1]));
+        turn(field, c, &g, register);
     }
 }
 
@@ -131,61 +130,58 @@ pub fn encode<F: Fixed<Q, M>, const Q: u32, const M: u32>(
     ensures tests { result ≡ Ok tt → failing_root (F.Field.means field.now) (shape code.now) word.new ≡ None }
     ensures kept { OnErr result (word.new ≡ word.old) }
 {
-    fit(field, code, word)?;
-    lay_checks(field, code, word);
+    let over = FieldCode::new(field, *code)?;
+    over.fit(word)?;
+    lay_checks(&over, word);
     Ok(())
 }
 
-// Whether all numbers are 0, the only number below 1.
+// Whether all numbers are 0.
 fn is_zero(row: &[u32]) -> bool
-    ensures { result ≡ all_below 1 row.now }
+    ensures { result ≡ list_all (λ x. nat_eq x 0) row.now }
 {
-    is_below(row, 1)
+    row.iter().all(|x| *x == 0)
 }
 
 // Writes the values of a remainder at the roots of the code.
 fn evaluate<F: Fixed<Q, M>, const Q: u32, const M: u32>(
-    field: &F,
-    first_root: u32,
+    over: &FieldCode<F, Q, M>,
     remainder: &[u32],
     points: &mut [u32],
     out: &mut [u32],
 )
     requires points { length points.old ≡ length out.old }
-    requires symbols { Within (F.Field.means field.now).q remainder.now }
-    ensures { Evaluated (F.Field.means field.now) first_root remainder.now out.new }
+    requires symbols { Within (F.Field.means over.now.field.now).q remainder.now }
+    ensures { Evaluated (F.Field.means over.now.field.now) (shape over.now.code).first remainder.now out.new }
 {
-    powers(field, first_root, 1, points);
-    values(field, remainder, points, out);
+    powers(over.field, over.code.first_root(), 1, points);
+    values(over.field, remainder, points, out);
 }
 
 // Writes the check sums of a word that fits, with room for its division and for the roots; whether all are 0.
 fn write_syndromes<F: Fixed<Q, M>, const Q: u32, const M: u32>(
-    field: &F,
-    code: &Code,
+    over: &FieldCode<F, Q, M>,
     word: &[u32],
     room: &mut [u32],
     points: &mut [u32],
     out: &mut [u32],
 ) -> bool
-    requires start { (shape code.now).first < M }
-    requires long { length word.now ≡ (shape code.now).n }
+    requires long { length word.now ≡ (shape over.now.code).n }
     requires symbols { all_below Q word.now ≡ true }
-    requires room { length room.old ≡ (shape code.now).n }
-    requires points { length points.old ≡ (shape code.now).checks }
-    requires written { length out.old ≡ (shape code.now).checks }
-    ensures all { result ≡ codeword (F.Field.means field.now) (shape code.now) word.now }
-    ensures each { Summed (F.Field.means field.now) (shape code.now) word.now out.old out.new }
+    requires room { length room.old ≡ (shape over.now.code).n }
+    requires points { length points.old ≡ (shape over.now.code).checks }
+    requires written { length out.old ≡ (shape over.now.code).checks }
+    ensures all { result ≡ codeword (F.Field.means over.now.field.now) (shape over.now.code) word.now }
+    ensures each { Summed (F.Field.means over.now.field.now) (shape over.now.code) word.now out.old out.new }
 {
-    let g = generator(field, code);
     room.copy_from_slice(word);
-    divide(field, code, &g, room);
+    divide(over, &generator(over), room);
     let remainder = &room[0..out.len()];
     if is_zero(remainder) {
-        clear(out, out.len());
+        out.fill(0);
         return true;
     }
-    evaluate(field, code.first_root(), remainder, points, out);
+    evaluate(over, remainder, points, out);
     is_zero(out)
 }
 
@@ -200,7 +196,8 @@ pub fn syndromes<F: Fixed<Q, M>, const Q: u32, const M: u32>(
     ensures answer { numbered result ≡ summing (F.Field.means field.now) (shape code.now) word.now out.old }
     ensures sums { MatchResult result (λ _. Summed (F.Field.means field.now) (shape code.now) word.now out.old out.new) (λ _. out.new ≡ out.old) }
 {
-    fit(field, code, word)?;
+    let over = FieldCode::new(field, *code)?;
+    over.fit(word)?;
     let checks = code.checks() as usize;
     if out.len() < checks {
         return Err(Refusal::Buffer);
@@ -208,8 +205,7 @@ pub fn syndromes<F: Fixed<Q, M>, const Q: u32, const M: u32>(
     let mut room = [0; POSITIONS];
     let mut points = [0; CHECKS];
     Ok(write_syndromes(
-        field,
-        code,
+        &over,
         word,
         &mut room[0..word.len()],
         &mut points[0..checks],

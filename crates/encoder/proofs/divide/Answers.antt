@@ -6,10 +6,10 @@ use Rattle.encoder.proofs.divide.Goals as goal
 
 pub loop-i-preserved : goal.loop-i-preserved
 loop-i-preserved g c =
-    let field = c.args.field.now in
+    let field = c.args.over.now.field.now in
     let f = g.F.Field.means field in
     let l = g.met.F.Field.lawful field in
-    let code = c.args.code.now in
+    let code = c.args.over.now.code in
     let b = (shape code).first in
     let r = (shape code).checks in
     let t = c.checks-checks.result in

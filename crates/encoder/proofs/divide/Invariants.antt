@@ -5,4 +5,4 @@ use Rattle.encoder.proofs.divide.Given as goal
 
 -- the places from i on are taken off
 abbrev pub invariant-loop-i : goal.invariant-loop-i
-invariant-loop-i g l = ((shape l.code).checks ≤ l.i) × Dividing (g.F.Field.means l.field) (shape l.code).first (shape l.code).checks l.i l.initial.row l.row
+invariant-loop-i g l = ((shape l.over.code).checks ≤ l.i) × Dividing (g.F.Field.means l.over.field.now) (shape l.over.code).first (shape l.over.code).checks l.i l.initial.row l.row

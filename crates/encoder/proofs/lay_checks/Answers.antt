@@ -1,68 +1,94 @@
-use Rattle.std.proofs.Common.{◌≡◌, suc, ◌-◌, ◌<◌, true, length, get_or, sym, ap, ◌∙◌, subst, arith}
-use Rattle.field.specs.Symbols.{all_below, Within}
+use Rattle.std.proofs.Common.{◌≡◌, suc, ◌-◌, ◌<◌, true, ◌++◌, length, get_or, drop, replicate, sym, ap, ◌∙◌, subst, arith, rules}
+use Rattle.std.proofs.lemmas.List.{length_push, length-reverse}
+use Rattle.std.proofs.lemmas.Iterator.Adapters.{YieldsList-from_rev_slice}
+use Rattle.std.proofs.lemmas.Iterator.Consumers.{YieldsList-turn, YieldsList-end}
+use Rattle.field.specs.Symbols.{Within, all_below}
 use Rattle.field.proofs.Symbols.{within_from}
 use Rattle.code.specs.Shape.{shape}
-use Rattle.encoder.specs.Register.{Turned, Generates, Cleared}
+use Rattle.code.specs.Words.{Word}
+use Rattle.encoder.specs.Encodes.{Encodes}
+use Rattle.encoder.specs.Register.{Turned, Generates}
+use Rattle.encoder.proofs.Turns.{zeros_at, drop_in}
+use Rattle.encoder.proofs.Holding.{Holding, holding_start, holding_more, from_end, fed_back}
 use Rattle.encoder.proofs.Encoding.{encodes}
-use Rattle.encoder.proofs.Holding.{Holding, holding_start, holding_more}
 use Rattle.encoder.proofs.lay_checks.Goals as goal
 
-pub loop-i-init : goal.loop-i-init
-loop-i-init g c =
-    let field = c.args.field.now in
-    let f = g.F.Field.means field in
-    let l = g.met.F.Field.lawful field in
-    let size : f.q ≡ g.row.Q = g.met.F.Fixed.size field in
-    let code = shape c.args.code.now in
-    let w = c.args.word.now in
-    let v = c.clear.new.xs in
-    let e : c.checks-checks.result ≡ code.checks = c.checks-checks.ensures in
-    let cl : Cleared code.checks w v = subst (λ n. Cleared n w v) e c.clear.ensures in
-    let in_q : Within f.q w = within_from f.q w (omega (arith, l.q_low)) (subst (λ q. all_below q w ≡ true) (sym size) c.requires.symbols) in
-    let long : length v ≡ code.n = omega arith in (
-      omega arith,
-      subst (λ n. Holding f code.first code.checks code.n n v v) (sym long) (holding_start f l code.first code.checks code.n w v cl in_q),
-    )
+pub loop-x-init : goal.loop-x-init
+loop-x-init g c =
+    let f = g.F.Field.means c.args.over.now.field.now in
+    let code = shape c.args.over.now.code in
+    let m = drop code.checks c.args.word.now in
+    let v = c.fill.new.self in
+    let is : v ≡ replicate (length c.split_at_mut-register.result.0.now) 0 = search rules in
+    subst (λ n. Holding f code.first code.checks n m v) (omega arith)
+    (holding_start f (g.met.F.Field.lawful _) code.first code.checks m v (λ i. ap (λ xs. get_or xs i 0) is ∙ zeros_at _ i))
 
-pub loop-i-preserved : goal.loop-i-preserved
-loop-i-preserved g c =
-    let field = c.args.field.now in
-    let f = g.F.Field.means field in
-    let l = g.met.F.Field.lawful field in
-    let code = shape c.args.code.now in
+pub turn-requires : goal.turn-requires
+turn-requires g c =
+    let f = g.F.Field.means c.args.over.now.field.now in
+    let l = g.met.F.Field.lawful c.args.over.now.field.now in
+    let code = shape c.args.over.now.code in
+    let w = c.args.word.now in
+    let m = drop code.checks w in
+    let size : f.q ≡ g.row.Q = g.met.F.Fixed.size c.args.over.now.field.now in
+    let w_in : Within f.q w = within_from f.q w (omega (arith, l.q_low)) (subst (λ q. all_below q w ≡ true) (sym size) c.requires.symbols) in
+    let t = YieldsList-turn (YieldsList-from_rev_slice m cc) c.loop-x.yielded _ c.loop-x.yielded_by _ _ c.in-Some.x c.in-Some.is c.next.ensures.steps in
+    let x_is = (from_end m _ _ t.0 t.1).1 in
+    let x_in : c.in-Some.x.now < f.q = rw x_is (drop_in f l code.checks w w_in _) in
+    let v_in = c.loop-x.invariant.within in
+    record {
+      some = omega arith;
+      read = omega arith;
+      factor = (fed_back f l _ _ _ (c.checks-checks.result - 1) c.loop-x.register x_in v_in c.opposite.ensures.within c.sum-c.ensures.within).1;
+      symbols = c.generator-g.ensures.within;
+      held = v_in;
+    }
+
+pub loop-x-preserved : goal.loop-x-preserved
+loop-x-preserved g c =
+    let f = g.F.Field.means c.args.over.now.field.now in
+    let l = g.met.F.Field.lawful c.args.over.now.field.now in
+    let code = shape c.args.over.now.code in
+    let w = c.args.word.now in
+    let m = drop code.checks w in
     let b = code.first in
     let r = code.checks - 1 in
-    let k = c.loop-i.i - 1 in
-    let gen = c.generator-g.result in
-    let w = c.clear.new.xs in
-    let v = c.loop-i.word in
-    let e : c.checks-checks.result ≡ code.checks = c.checks-checks.ensures in
+    let n = length c.loop-x.yielded in
+    let i = length m - 1 - n in
+    let old = c.loop-x.register in
+    let new = c.turn.new.to in
+    let size : f.q ≡ g.row.Q = g.met.F.Fixed.size c.args.over.now.field.now in
+    let w_in : Within f.q w = within_from f.q w (omega (arith, l.q_low)) (subst (λ q. all_below q w ≡ true) (sym size) c.requires.symbols) in
+    let m_in = drop_in f l code.checks w w_in in
+    let t = YieldsList-turn (YieldsList-from_rev_slice m cc) c.loop-x.yielded _ c.loop-x.yielded_by _ _ c.in-Some.x c.in-Some.is c.next.ensures.steps in
+    let p = from_end m _ _ t.0 t.1 in
+    let low : n < length m = p.0 in
+    let x_in : c.in-Some.x.now < f.q = rw p.1 (m_in _) in
     let er : code.checks ≡ suc r = omega arith in
-    let ek : c.loop-i.i ≡ suc k = omega arith in
     let et : c.checks-checks.result - 1 ≡ r = omega arith in
-    let h : Holding f b (suc r) code.n (suc k) w v = subst (λ n. Holding f b n code.n (suc k) w v) er (subst (λ n. Holding f b code.checks code.n n w v) ek c.loop-i.invariant.1) in
-    let t : Turned f c.sum-c.result r gen v c.turn.new.to = subst (λ n. Turned f c.sum-c.result n gen v c.turn.new.to) et c.turn.ensures in
-    let top_is : get_or v (c.checks-checks.result - 1) 0 ≡ get_or v r 0 = ap (λ n. get_or v n 0) et in
-    let o : c.opposite.result ≡ f.opp (get_or v r 0) = c.opposite.ensures.within (h.within (c.checks-checks.result - 1)) ∙ ap f.opp top_is in
-    let o_in : c.opposite.result < f.q = subst (λ n. n < f.q) (sym o) (l.opp_in _ (h.within r)) in (
-      omega arith,
-      subst (λ n. Holding f b n code.n k w c.turn.new.to) (sym er)
-          (holding_more f l b r code.n k c.sum-c.result gen w v c.turn.new.to
-          (subst (λ n. Generates f b n gen) er c.generator-g.ensures) h (omega arith) (omega arith)
-          (c.sum-c.ensures.within (h.within k) o_in ∙ ap (f.sum (get_or v k 0)) o) t),
-    )
+    let en : length old - 1 ≡ r = omega arith in
+    let ei : length m - n ≡ suc i = omega arith in
+    let h : Holding f b (suc r) (suc i) m old = subst (λ k. Holding f b k (suc i) m old) er (subst (λ k. Holding f b code.checks k m old) ei c.loop-x.invariant) in
+    let fed = fed_back f l _ _ _ (c.checks-checks.result - 1) old x_in h.within c.opposite.ensures.within c.sum-c.ensures.within in
+    let t : Turned f c.sum-c.result r c.generator-g.result old new = subst (λ k. Turned f c.sum-c.result k c.generator-g.result old new) en c.turn.ensures in
+    subst (λ k. Holding f b code.checks k m new) (omega (arith, length_push c.loop-x.yielded c.in-Some.x))
+    (subst (λ k. Holding f b k i m new) (sym er)
+    (holding_more f l b r i c.sum-c.result c.in-Some.x.now c.generator-g.result m old new (subst (λ k. Generates f b k c.generator-g.result) er c.generator-g.ensures) m_in h (omega arith) p.1
+    (fed.0 ∙ ap (λ k. f.sum c.in-Some.x.now (f.opp (get_or old k 0))) et) t))
 
 pub returns : goal.returns
 returns g c =
-    let field = c.args.field.now in
-    let f = g.F.Field.means field in
-    let l = g.met.F.Field.lawful field in
-    let turn : f.m ≡ g.row.M = g.met.F.Fixed.turn field in
-    let code = shape c.args.code.now in
+    let f = g.F.Field.means c.args.over.now.field.now in
+    let l = g.met.F.Field.lawful c.args.over.now.field.now in
+    let code = shape c.args.over.now.code in
     let w = c.args.word.now in
-    let u = c.clear.new.xs in
-    let v = c.loop-i.word in
-    let e : c.checks-checks.result ≡ code.checks = c.checks-checks.ensures in
-    let ei : c.loop-i.i ≡ code.checks = omega arith in
-    encodes f l code w u v (omega arith) (omega arith) (omega arith) (subst (λ n. Cleared n w u) e c.clear.ensures)
-    (subst (λ n. Holding f code.first code.checks code.n n u v) ei c.loop-i.invariant.1)
+    let m = drop code.checks w in
+    let size : f.q ≡ g.row.Q = g.met.F.Fixed.size c.args.over.now.field.now in
+    let turn : f.m ≡ g.row.M = g.met.F.Fixed.turn c.args.over.now.field.now in
+    let word : Word f.q code.n w = record { long = c.requires.long; symbols = subst (λ q. all_below q w ≡ true) (sym size) c.requires.symbols } in
+    let fits = c.args.over.now.fits in
+    let t = (YieldsList-end (YieldsList-from_rev_slice m cc) c.loop-x.yielded _ c.loop-x.yielded_by _ _ c.in-None.is c.next.ensures.steps).1 in
+    let rest : c.split_at_mut-register.result.1.now ≡ m = c.split_at_mut-register.ensures.back ∙ ap (λ k. drop k w) c.checks-checks.ensures in
+    subst (λ xs. Encodes f code w (c.loop-x.register ++ xs)) (sym rest)
+    (encodes f l code w c.loop-x.register (omega arith) (omega arith) word (omega arith)
+    (subst (λ k. Holding f code.first code.checks k m c.loop-x.register) (omega (arith, t, length-reverse m)) c.loop-x.invariant))

@@ -1,66 +1,57 @@
-use Rattle.std.proofs.Common.{◌≡◌, ℕ, ◌-◌, true, List, length, take, sym, refl, ◌∙◌, subst, arith}
+use Rattle.std.proofs.Common.{◌≡◌, ℕ, ◌-◌, true, length, get_or, replicate, take, sym, ap, ◌∙◌, subst, arith, rules}
 use Rattle.field.specs.Symbols.{all_below, Within}
 use Rattle.field.proofs.Symbols.{within_from}
 use Rattle.code.specs.Shape.{shape}
-use Rattle.encoder.specs.Register.{Divided, Evaluated}
-use Rattle.encoder.proofs.Summing.{part_in, zero_passes, zero_sums, values_pass, values_sums}
+use Rattle.encoder.specs.Register.{Divided}
+use Rattle.encoder.proofs.Turns.{zeros_at, take_in}
+use Rattle.encoder.proofs.Summing.{zero_values, zeros_pass, values_pass, values_sums}
 use Rattle.encoder.proofs.write_syndromes.Goals as goal
 
 pub divide-requires : goal.divide-requires
 divide-requires g c =
-    let field = c.args.field.now in
-    let f = g.F.Field.means field in
-    let l = g.met.F.Field.lawful field in
-    let size : f.q ≡ g.row.Q = g.met.F.Fixed.size field in
+    let f = g.F.Field.means c.args.over.now.field.now in
+    let l = g.met.F.Field.lawful c.args.over.now.field.now in
+    let size : f.q ≡ g.row.Q = g.met.F.Fixed.size c.args.over.now.field.now in
     let w = c.args.word.now in
-    let in_q : Within f.q w = within_from f.q w (omega (arith, l.q_low)) (subst (λ q. all_below q w ≡ true) (sym size) c.requires.symbols) in
-    record {
-      generates = c.generator-g.ensures;
-      long = omega arith;
-      symbols = subst (λ (v : List ℕ). Within f.q v) (sym c.copy_from_slice.ensures.after) in_q;
-    }
+    let w_in : Within f.q w = within_from f.q w (omega (arith, l.q_low)) (subst (λ q. all_below q w ≡ true) (sym size) c.requires.symbols) in
+    (omega arith, (c.generator.ensures, (omega arith, rw c.copy_from_slice.ensures.after w_in)))
 
 pub returns-then-is_zero : goal.returns-then-is_zero
 returns-then-is_zero g c =
-    let field = c.args.field.now in
-    let f = g.F.Field.means field in
-    let l = g.met.F.Field.lawful field in
-    let sh = shape c.args.code.now in
+    let f = g.F.Field.means c.args.over.now.field.now in
+    let l = g.met.F.Field.lawful c.args.over.now.field.now in
+    let sh = shape c.args.over.now.code in
     let w = c.args.word.now in
     let row = c.divide.new.row in
-    let k = length c.args.out.now - 0 in
-    let d : Divided f sh.first sh.checks w row = subst (λ (v : List ℕ). Divided f sh.first sh.checks v row) c.copy_from_slice.ensures.after c.divide.ensures in
-    let zeros : all_below 1 (take k row) ≡ true = sym c.is_zero.ensures ∙ c.if-is_zero.true in
+    let old = c.args.out.now in
+    let new = c.fill.new.self in
+    let k = length old - 0 in
+    let d : Divided f sh.first sh.checks w row = subst (λ v. Divided f sh.first sh.checks v row) c.copy_from_slice.ensures.after c.divide.ensures in
+    let is : new ≡ replicate (length old) 0 = search rules in
+    let zeros : (i : ℕ) → get_or new i 0 ≡ 0 = λ i. ap (λ xs. get_or xs i 0) is ∙ zeros_at _ i in
+    let vs = zero_values f l sh.first (take k row) new (sym c.is_zero.ensures ∙ c.if-is_zero.true) zeros in
     record {
-      all = zero_passes f l sh w row (take k row) d (omega arith) k (omega arith) refl zeros;
-      each = zero_sums f l sh w row (take k row) d (omega arith) k (omega arith) refl zeros c.args.out.now c.clear.new.xs (length c.args.out.now) (omega arith) c.clear.ensures;
+      all = zeros_pass f l sh w row k d (omega arith) (omega arith) old new (omega arith) (omega arith) vs zeros;
+      each = values_sums f l sh w row k d (omega arith) (omega arith) old new (omega arith) (omega arith) vs;
     }
 
 pub evaluate-requires : goal.evaluate-requires
 evaluate-requires g c =
-    let field = c.args.field.now in
-    let f = g.F.Field.means field in
-    let l = g.met.F.Field.lawful field in
-    let sh = shape c.args.code.now in
-    let w = c.args.word.now in
-    let row = c.divide.new.row in
-    let k = length c.args.out.now - 0 in
-    let d : Divided f sh.first sh.checks w row = subst (λ (v : List ℕ). Divided f sh.first sh.checks v row) c.copy_from_slice.ensures.after c.divide.ensures in
-    record { points = omega arith; symbols = part_in f l sh w row (take k row) d (omega arith) k (omega arith) refl }
+    let f = g.F.Field.means c.args.over.now.field.now in
+    (omega arith, (omega arith, take_in f (g.met.F.Field.lawful _) _ c.divide.new.row c.divide.ensures.within))
 
 pub returns : goal.returns
 returns g c =
-    let field = c.args.field.now in
-    let f = g.F.Field.means field in
-    let l = g.met.F.Field.lawful field in
-    let sh = shape c.args.code.now in
+    let f = g.F.Field.means c.args.over.now.field.now in
+    let l = g.met.F.Field.lawful c.args.over.now.field.now in
+    let sh = shape c.args.over.now.code in
     let w = c.args.word.now in
     let row = c.divide.new.row in
-    let k = length c.args.out.now - 0 in
+    let old = c.args.out.now in
     let new = c.evaluate.new.out in
-    let d : Divided f sh.first sh.checks w row = subst (λ (v : List ℕ). Divided f sh.first sh.checks v row) c.copy_from_slice.ensures.after c.divide.ensures in
-    let vs = subst (λ (b : ℕ). Evaluated f b (take k row) new) c.first_root.ensures c.evaluate.ensures in
+    let k = length old - 0 in
+    let d : Divided f sh.first sh.checks w row = subst (λ v. Divided f sh.first sh.checks v row) c.copy_from_slice.ensures.after c.divide.ensures in
     record {
-      all = c.is_zero-2.ensures ∙ values_pass f l sh w row (take k row) d (omega arith) k (omega arith) refl c.args.out.now new (omega arith) (omega arith) vs;
-      each = values_sums f l sh w row (take k row) d (omega arith) k (omega arith) refl c.args.out.now new (omega arith) (omega arith) vs;
+      all = c.is_zero-2.ensures ∙ values_pass f l sh w row k d (omega arith) (omega arith) old new (omega arith) (omega arith) c.evaluate.ensures;
+      each = values_sums f l sh w row k d (omega arith) (omega arith) old new (omega arith) (omega arith) c.evaluate.ensures;
     }
