@@ -60,18 +60,19 @@ impl Field for F929 {
     }
 
     fn opposite(&self, x: u32) -> u32 {
-        if x == 0 || x >= SYMBOLS {
-            0
-        } else {
+        if (1..SYMBOLS).contains(&x) {
             SYMBOLS - x
+        } else {
+            0
         }
     }
 
     fn reciprocal(&self, x: u32) -> Option<u32> {
-        if x == 0 || x >= SYMBOLS {
-            return None;
+        if (1..SYMBOLS).contains(&x) {
+            Some(inverse(x, SYMBOLS))
+        } else {
+            None
         }
-        Some(inverse(x, SYMBOLS))
     }
 
     fn power(&self, i: u16) -> u32 {

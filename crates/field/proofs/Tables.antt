@@ -41,3 +41,8 @@ logarithm_at f ls i t h =
     let r = locates_at (turn f) ls 1 i t h in
     let b : get_or ls i 0 < f.m = subst (λ (n : ℕ). get_or ls i 0 < n) (climb_length f f.m 1) r.0 in
     (b, sym (power_at f (get_or ls i 0) b) ∙ r.1)
+
+-- what is read of one whole turn at i, counted round, is a to the i
+pub power_read : (f : Meaning) → Laws f → (ps : List ℕ) → ps ≡ turn f → (i k x : ℕ) → k ≡ i % f.m → x ≡ get_or ps k 0 → x ≡ pow f f.a i
+power_read f l ps t i k x round read =
+    read ∙ ap (λ (qs : List ℕ). get_or qs k 0) t ∙ ap (λ (j : ℕ). get_or (turn f) j 0) round ∙ turn_at f l i

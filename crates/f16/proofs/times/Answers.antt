@@ -19,12 +19,12 @@ loop-k-preserved c =
     ] in (
       c.shifted-left.ensures.within,
       rw total_is (xor_lt 4 c.loop-k.total add c.loop-k.invariant.1 (add_in c.loop-k.right c.loop-k.left 16 (lit< tt) c.loop-k.invariant.0)),
-      simp (total_is, c.shifted-left.ensures.is) (step 4 c.loop-k.k c.loop-k.total c.loop-k.left c.loop-k.right c.loop-k-test.true) ∙ c.loop-k.invariant.2,
+      simp (total_is, c.shifted-left.ensures.is) (step 4 c.loop-k._k c.loop-k.total c.loop-k.left c.loop-k.right c.loop-k-test.true) ∙ c.loop-k.invariant.2,
     )
 
 pub returns : goal.returns
 returns c =
-    let k : 4 - c.loop-k.k ≡ 0 = omega arith in
+    let k : 4 - c.loop-k._k ≡ 0 = omega arith in
     record {
       is = sym (xor_zero_r c.loop-k.total) ∙ ap (λ (n : ℕ). bit_xor c.loop-k.total (terms 4 19 n c.loop-k.left c.loop-k.right)) (sym k) ∙ c.loop-k.invariant.2;
       within = c.loop-k.invariant.1;

@@ -5,4 +5,4 @@ use Rattle.f16.proofs.times.Given as goal
 
 -- the total, with left times the terms of right that are left over, is the product
 abbrev pub invariant-loop-k : goal.invariant-loop-k
-invariant-loop-k l = (l.left < 16) × (l.total < 16) × (bit_xor l.total (terms 4 19 (4 - l.k) l.left l.right) ≡ product 4 19 l.v l.w)
+invariant-loop-k l = (l.left < 16) × (l.total < 16) × (bit_xor l.total (terms 4 19 (4 - l._k) l.left l.right) ≡ product 4 19 l.v l.w)
