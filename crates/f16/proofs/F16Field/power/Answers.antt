@@ -1,6 +1,6 @@
 use Rattle.std.proofs.Common.{◌≡◌, refl}
 use Rattle.field.specs.Tables.{turn}
-use Rattle.field.proofs.Tables.{power_read}
+use Rattle.field.proofs.Tables.{power_round}
 use Rattle.binary.specs.Polynomials.{shifted, product}
 use Rattle.f16.specs.Sixteen.{sixteen}
 use Rattle.f16.specs.SixteenLemmas.{sixteen_laws}
@@ -13,4 +13,4 @@ unfolding turn shifted product
 table = refl
 
 pub returns : goal.returns
-returns c = power_read sixteen sixteen_laws POWERS table c.args.i c.from.result c.from-2.result c.from.ensures c.from-2.ensures
+returns c = power_round sixteen sixteen_laws POWERS table c.args.i c.from.result c.from-2.result c.from.ensures c.from-2.ensures
