@@ -20,32 +20,11 @@ mod powers;
 const SYMBOLS: u32 = 256;
 
 // How many different powers x has: the turn.
-const TURN: u16 = 255;
+const TURN: u32 = 255;
 
 // The field itself, which holds nothing.
 #[derive(Clone, Copy)]
 pub struct F256 {}
-
-// x to the i + j, where both are below the turn.
-fn power_of_sum(i: u16, j: u16) -> u32
-    requires { (i < 255) × (j < 255) }
-    ensures { result ≡ pow bytes 2 (i + j) }
-{
-    let both = i + j;
-    power_of(if both < TURN { both } else { both - TURN })
-}
-
-// The product of y and the symbol that has the logarithm i; 0 where y is no symbol.
-fn scaled(i: u16, y: u32) -> u32
-    requires { i < 255 }
-    ensures within { y < 256 → result ≡ bytes.prod (pow bytes 2 i) y }
-    ensures beyond { 256 ≤ y → result ≡ 0 }
-{
-    match logarithm(y) {
-        Some(j) => power_of_sum(i, j),
-        None => 0,
-    }
-}
 
 impl Field for F256 {
     ghost means = { λ _. bytes };
@@ -57,10 +36,14 @@ impl Field for F256 {
     }
 
     fn product(&self, x: u32, y: u32) -> u32 {
-        match logarithm(x) {
-            Some(i) => scaled(i, y),
-            None => 0,
-        }
+        let Some(i) = logarithm(x) else {
+            return 0;
+        };
+        let Some(j) = logarithm(y) else {
+            return 0;
+        };
+        let both = i + j;
+        power_of(if both < TURN { both } else { both - TURN })
     }
 
     fn opposite(&self, x: u32) -> u32 {
@@ -73,21 +56,12 @@ impl Field for F256 {
     }
 
     fn power(&self, i: u16) -> u32 {
-        power_of(i % TURN)
+        power_of(u32::from(i) % TURN)
     }
 
     // The product is a symbol whatever is asked, and nothing else is tested.
     fn multiply_add(&self, x: u32, y: u32, z: u32) -> u32 {
         self.product(x, y) ^ z
-    }
-
-    // The logarithm of c is looked up once for the whole row.
-    fn add_multiple(&self, c: u32, from: &[u32], to: &mut [u32]) {
-        let Some(i) = logarithm(c) else { return };
-        let size = from.len().min(to.len());
-        for k in 0..size {
-            to[k] ^= scaled(i, from[k]);
-        }
     }
 }
 

@@ -23,11 +23,11 @@ const LOGARITHMS: [u8; 255] = [
 ];
 
 // The logarithm of a symbol other than 0; nothing for 0 and where the number is no symbol.
-pub(super) fn logarithm(v: u32) -> Option<u16>
+pub(super) fn logarithm(v: u32) -> Option<u32>
     ensures { MatchOption result (v < 256 → v ≡ 0) (λ i. (i < 255) × (pow bytes 2 i ≡ v) × (0 < v) × (v < 256)) }
 {
     if (1..SYMBOLS).contains(&v) {
-        Some(u16::from(LOGARITHMS[(v - 1) as usize]))
+        Some(u32::from(LOGARITHMS[(v - 1) as usize]))
     } else {
         None
     }

@@ -21,9 +21,9 @@ const POWERS: [u8; 255] = [
 ];
 
 // x to the i, where i is below the turn.
-pub(super) fn power_of(i: u16) -> u32
+pub(super) fn power_of(i: u32) -> u32
     requires { i < 255 }
     ensures { result ≡ pow bytes 2 i }
 {
-    u32::from(POWERS[usize::from(i)])
+    u32::from(POWERS[i as usize])
 }

@@ -12,4 +12,4 @@ unfolding turn shifted product
 table = refl
 
 pub returns : goal.returns
-returns c = power_held bytes POWERS table c.args.i c.from.result c.from-2.result c.requires c.from.ensures c.from-2.ensures
+returns c = power_held bytes POWERS table c.args.i c.args.i c.from.result c.requires refl c.from.ensures
