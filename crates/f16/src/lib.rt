@@ -52,7 +52,7 @@ fn times(v: u32, w: u32) -> u32
     let mut left = v;
     let mut right = w;
     let mut total = 0;
-    for _k in 0..DEGREE {
+    for _ in 0..DEGREE {
         if right % 2 == 1 {
             total ^= left;
         }
