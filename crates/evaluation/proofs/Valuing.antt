@@ -1,5 +1,8 @@
 -- Horner's rule at all points at once.
-use Rattle.std.proofs.Common.{◌≡◌, ℕ, suc, ◌+◌, ◌-◌, ◌<◌, ◌≤◌, List, length, get_or, sym, refl, ap, ◌∙◌, add-zero, arith}
+use Rattle.std.proofs.Common.{◌≡◌, ℕ, suc, ◌+◌, ◌-◌, ◌<◌, ◌≤◌, List, [], ◌∷◌, ◌++◌, length, get_or, sym, refl, ap, ◌∙◌, subst, add-zero, append-nil, append_assoc, length-append, arith}
+use Rattle.std.proofs.Math.Seq.{get_or-append_seam}
+use Rattle.std.proofs.lemmas.List.{length_push}
+use Rattle.std.specs.List.{push}
 use mathlib.Core.Path.{fun_ext}
 use Rattle.algebra.proofs.Roots as R
 use Rattle.algebra.proofs.Sums as S
@@ -49,6 +52,26 @@ valuing_more f w points old now new i hi ln s a = record {
       );
   rest = λ j h. a.rest j h ∙ s.rest j h;
 }
+
+-- the rows while the polynomial is read from its end: left is what is still to read, and now holds the value of what was read
+abbrev pub Reading : Meaning → List ℕ → List ℕ → List ℕ → List ℕ → List ℕ → Type 0
+Reading f w points old now left = ((read : List ℕ) × (w ≡ left ++ read)) × Valuing f w points old now (length left)
+
+pub reading_none : (f : Meaning) (w points start left : List ℕ) → left ≡ w → ((j : ℕ) → j < length points → get_or start j 0 ≡ 0) → Reading f w points start start left
+reading_none f w points start left e zeros =
+    (([], sym (append-nil left ∙ e)), rw e (valuing_none f w points start zeros))
+
+pub reading_more : (f : Meaning) (w points old now new left after : List ℕ) (x : ℕ) → left ≡ push after x → length now ≡ length old → Reading f w points old now left → Advanced f x points now new
+    → Reading f w points old new after
+reading_more f w points old now new left after x e ln s a =
+    let read = s.0.0 in
+    let whole : w ≡ after ++ (x ∷ read) = s.0.1 ∙ ap (λ xs. xs ++ read) e ∙ append_assoc after (x ∷ []) read in
+    let here : get_or w (length after) 0 ≡ x = ap (λ xs. get_or xs (length after) 0) whole ∙ get_or-append_seam after x read 0 in
+    let size : length left ≡ suc (length after) = omega (arith, ap length e, length_push after x) in
+    let within : length after < length w = omega (arith, ap length s.0.1, length-append left read, size) in (
+      (x ∷ read, whole),
+      valuing_more f w points old now new (length after) within ln (subst (Valuing f w points old now) size s.1) (subst (λ c. Advanced f c points now new) (sym here) a),
+    )
 
 module _ (f : Meaning) (l : Laws f) where
   -- the value at x, in the lifted field

@@ -54,9 +54,7 @@ pub fn clear(size: usize, row: &mut [u32])
     ensures { Cleared size row.old row.new }
 {
     let end = size.min(row.len());
-    for j in 0..end {
-        row[j] = 0;
-    }
+    row[..end].fill(0);
 }
 
 // Writes the value of a polynomial at each point, as far as both rows go: Horner's rule, a coefficient at a time for all points.
@@ -65,7 +63,7 @@ pub fn values<F: Field>(field: &F, polynomial: &[u32], points: &[u32], out: &mut
     ensures { Values (F.Field.means field.now) polynomial.now points.now out.old out.new }
 {
     clear(points.len(), out);
-    for i in (0..polynomial.len()).rev() {
-        field.advance(polynomial[i], points, out);
+    for c in polynomial.iter().rev() {
+        field.advance(*c, points, out);
     }
 }

@@ -10,6 +10,7 @@ ghost use Rattle.f16.specs.Sixteen.{sixteen};
 ghost use Rattle.f16.specs.SixteenLemmas.{sixteen_laws};
 ghost use Rattle.std.proofs.Common.{rules};
 
+use binary::{opposite, sum};
 use field::{Field, Fixed};
 
 // How many symbols there are.
@@ -51,7 +52,7 @@ fn times(v: u32, w: u32) -> u32
     let mut left = v;
     let mut right = w;
     let mut total = 0;
-    for k in 0..DEGREE {
+    for _ in 0..DEGREE {
         if right % 2 == 1 {
             total ^= left;
         }
@@ -61,21 +62,13 @@ fn times(v: u32, w: u32) -> u32
     total
 }
 
-// x to the i, from a table of one whole turn.
-fn power_in(powers: &[u8; 15], i: u16) -> u32
-    requires { powers.now ≡ turn sixteen }
-    ensures { result ≡ pow sixteen 2 i }
-{
-    powers[(i % TURN) as usize] as u32
-}
-
 impl Field for F16 {
     ghost means = { λ _. sixteen };
 
     ghost lawful = { λ x. sixteen_laws };
 
     fn sum(&self, x: u32, y: u32) -> u32 {
-        if x < SYMBOLS && y < SYMBOLS { x ^ y } else { 0 }
+        sum::<SYMBOLS>(x, y)
     }
 
     fn product(&self, x: u32, y: u32) -> u32 {
@@ -86,14 +79,13 @@ impl Field for F16 {
         }
     }
 
-    // Each symbol is its own opposite.
     fn opposite(&self, x: u32) -> u32 {
-        if x < SYMBOLS { x } else { 0 }
+        opposite::<SYMBOLS>(x)
     }
 
     // x to the fourteenth: with x it gives the fifteenth, which is 1.
     fn reciprocal(&self, x: u32) -> Option<u32> {
-        if x == 0 || x >= SYMBOLS {
+        if !(1..SYMBOLS).contains(&x) {
             return None;
         }
         let second = times(x, x);
@@ -103,7 +95,7 @@ impl Field for F16 {
     }
 
     fn power(&self, i: u16) -> u32 {
-        power_in(&POWERS, i)
+        u32::from(POWERS[usize::from(i % TURN)])
     }
 }
 

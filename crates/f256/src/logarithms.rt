@@ -1,8 +1,9 @@
 // The table of logarithms, and what it answers.
-ghost use Rattle.std.specs.Prelude.{◌≡◌, ◌<◌};
+ghost use Rattle.std.specs.Prelude.{◌≡◌, ◌<◌, MatchOption};
 ghost use Rattle.f256.specs.Bytes.{bytes};
 ghost use Rattle.field.specs.Meaning.{pow};
-ghost use Rattle.field.specs.Tables.{Logarithms};
+
+use crate::SYMBOLS;
 
 // The logarithms of 1 to 255: of each the power of x that it is.
 const LOGARITHMS: [u8; 255] = [
@@ -21,23 +22,13 @@ const LOGARITHMS: [u8; 255] = [
     214, 244, 234, 168, 80, 88, 175,
 ];
 
-// The logarithm of a symbol other than 0, from a table of all of them.
-fn logarithm_in(table: &[u8; 255], v: u32) -> u32
-    requires rule { Logarithms bytes table.now }
-    requires low { 0 < v }
-    requires high { v < 256 }
-    ensures below { result < 255 }
-    ensures back { pow bytes 2 result ≡ v }
+// The logarithm of a symbol other than 0; nothing for 0 and where the number is no symbol.
+pub(super) fn logarithm(v: u32) -> Option<u32>
+    ensures { MatchOption result (v < 256 → v ≡ 0) (λ i. (i < 255) × (pow bytes 2 i ≡ v) × (0 < v) × (v < 256)) }
 {
-    table[(v - 1) as usize] as u32
-}
-
-// The logarithm of a symbol other than 0.
-pub(super) fn logarithm(v: u32) -> u32
-    requires low { 0 < v }
-    requires high { v < 256 }
-    ensures below { result < 255 }
-    ensures back { pow bytes 2 result ≡ v }
-{
-    logarithm_in(&LOGARITHMS, v)
+    if (1..SYMBOLS).contains(&v) {
+        Some(u32::from(LOGARITHMS[(v - 1) as usize]))
+    } else {
+        None
+    }
 }

@@ -2,7 +2,6 @@
 ghost use Rattle.std.specs.Prelude.{◌≡◌, ◌<◌};
 ghost use Rattle.f256.specs.Bytes.{bytes};
 ghost use Rattle.field.specs.Meaning.{pow};
-ghost use Rattle.field.specs.Tables.{turn};
 
 // x to the 0, 1, .. and 254.
 const POWERS: [u8; 255] = [
@@ -21,19 +20,10 @@ const POWERS: [u8; 255] = [
     131, 27, 54, 108, 216, 173, 71, 142,
 ];
 
-// x to the i, from a table of one whole turn, where i is below it.
-fn power_in(powers: &[u8; 255], i: u32) -> u32
-    requires rule { powers.now ≡ turn bytes }
-    requires below { i < 255 }
-    ensures { result ≡ pow bytes 2 i }
-{
-    powers[i as usize] as u32
-}
-
 // x to the i, where i is below the turn.
 pub(super) fn power_of(i: u32) -> u32
     requires { i < 255 }
     ensures { result ≡ pow bytes 2 i }
 {
-    power_in(&POWERS, i)
+    u32::from(POWERS[i as usize])
 }

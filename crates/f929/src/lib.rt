@@ -9,7 +9,7 @@ ghost use Rattle.f929.specs.ResiduesLemmas.{residues_laws};
 ghost use Rattle.std.proofs.Common.{rules};
 
 use field::{Field, Fixed};
-use powers::power_of;
+use powers::{POWERS, TURN};
 
 mod powers;
 
@@ -36,13 +36,6 @@ fn inverse(x: u32, n: u32) -> u32
     n - (n * y - 1) / x
 }
 
-// x · y + z for symbols, reduced once; some number where one of them is no symbol.
-fn multiply_add(x: u32, y: u32, z: u32) -> u32
-    ensures { x < 929 → y < 929 → z < 929 → result ≡ residues.sum (residues.prod x y) z }
-{
-    x.wrapping_mul(y).wrapping_add(z) % SYMBOLS
-}
-
 impl Field for F929 {
     ghost means = { λ _. residues };
 
@@ -67,36 +60,28 @@ impl Field for F929 {
     }
 
     fn opposite(&self, x: u32) -> u32 {
-        if x == 0 || x >= SYMBOLS {
-            0
-        } else {
+        if (1..SYMBOLS).contains(&x) {
             SYMBOLS - x
+        } else {
+            0
         }
     }
 
     fn reciprocal(&self, x: u32) -> Option<u32> {
-        if x == 0 || x >= SYMBOLS {
-            return None;
+        if (1..SYMBOLS).contains(&x) {
+            Some(inverse(x, SYMBOLS))
+        } else {
+            None
         }
-        Some(inverse(x, SYMBOLS))
     }
 
     fn power(&self, i: u16) -> u32 {
-        power_of(i)
+        u32::from(POWERS[usize::from(i % TURN)])
     }
 
-    fn add_multiple(&self, c: u32, from: &[u32], to: &mut [u32]) {
-        let size = from.len().min(to.len());
-        for i in 0..size {
-            to[i] = multiply_add(c, from[i], to[i]);
-        }
-    }
-
-    fn advance(&self, w: u32, points: &[u32], row: &mut [u32]) {
-        let size = points.len().min(row.len());
-        for j in 0..size {
-            row[j] = multiply_add(row[j], points[j], w);
-        }
+    // Reduced once, and nothing is tested.
+    fn multiply_add(&self, x: u32, y: u32, z: u32) -> u32 {
+        x.wrapping_mul(y).wrapping_add(z) % SYMBOLS
     }
 }
 

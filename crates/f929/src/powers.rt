@@ -1,14 +1,10 @@
-// The table of powers, and what it answers.
-ghost use Rattle.std.specs.Prelude.{◌≡◌};
-ghost use Rattle.f929.specs.Residues.{residues};
-ghost use Rattle.field.specs.Meaning.{pow};
-ghost use Rattle.field.specs.Tables.{turn};
+// The table of powers.
 
 // How many different powers 3 has: the turn.
-const TURN: u16 = 928;
+pub(super) const TURN: u16 = 928;
 
 // 3 to the 0, 1, .. and 927.
-const POWERS: [u16; 928] = [
+pub(super) const POWERS: [u16; 928] = [
     1, 3, 9, 27, 81, 243, 729, 329, 58, 174, 522, 637, 53, 159, 477, 502, 577, 802, 548, 715, 287,
     861, 725, 317, 22, 66, 198, 594, 853, 701, 245, 735, 347, 112, 336, 79, 237, 711, 275, 825,
     617, 922, 908, 866, 740, 362, 157, 471, 484, 523, 640, 62, 186, 558, 745, 377, 202, 606, 889,
@@ -59,18 +55,3 @@ const POWERS: [u16; 928] = [
     296, 888, 806, 560, 751, 395, 256, 768, 446, 409, 298, 894, 824, 614, 913, 881, 785, 497, 562,
     757, 413, 310,
 ];
-
-// 3 to the i, from a table of one whole turn.
-fn power_in(powers: &[u16; 928], i: u16) -> u32
-    requires { powers.now ≡ turn residues }
-    ensures { result ≡ pow residues 3 i }
-{
-    powers[(i % TURN) as usize] as u32
-}
-
-// 3 to the i.
-pub(super) fn power_of(i: u16) -> u32
-    ensures { result ≡ pow residues 3 i }
-{
-    power_in(&POWERS, i)
-}

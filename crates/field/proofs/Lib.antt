@@ -5,5 +5,4 @@ pub mod Order
 pub mod Tables
 pub mod Reciprocals
 pub mod Lifting
-pub mod Writing
 pub mod Parts

@@ -18,9 +18,6 @@ module _ (f : Meaning) (l : Laws f) where
   one_prod : (x : ℕ) → x < f.q → f.prod 1 x ≡ x
   one_prod x h = l.prod_comm 1 x one_in h ∙ l.prod_one x h
 
-  pub zero_sum : (x : ℕ) → x < f.q → f.sum 0 x ≡ x
-  zero_sum x h = l.sum_comm 0 x zero_in h ∙ l.sum_zero x h
-
   -- 0 times anything
   pub zero_prod : (x : ℕ) → x < f.q → f.prod 0 x ≡ 0
   zero_prod x h =

@@ -18,10 +18,6 @@ pub power_at : (f : Meaning) (i : ℕ) → i < f.m → get_or (turn f) i 0 ≡ p
 unfolding turn
 power_at f i h = climb_at f f.m 0 i h ∙ ap (pow f f.a) (zero-add i)
 
--- one whole turn answers every power
-pub turn_at : (f : Meaning) → Laws f → (n : ℕ) → get_or (turn f) (n % f.m) 0 ≡ pow f f.a n
-turn_at f l n = power_at f (n % f.m) (mod-lt n l.m_low) ∙ pow_mod f l n
-
 locates_at : (ps ls : List ℕ) (x i : ℕ) → locates ps x ls ≡ true → i < length ls
     → (get_or ls i 0 < length ps) × (get_or ps (get_or ls i 0) 0 ≡ x + i)
 locates_at ps [] x i t h = absurd (omega arith)
@@ -41,3 +37,12 @@ logarithm_at f ls i t h =
     let r = locates_at (turn f) ls 1 i t h in
     let b : get_or ls i 0 < f.m = subst (λ (n : ℕ). get_or ls i 0 < n) (climb_length f f.m 1) r.0 in
     (b, sym (power_at f (get_or ls i 0) b) ∙ r.1)
+
+-- what a table of one whole turn holds at k is a to the k
+pub power_held : (f : Meaning) (ps : List ℕ) → ps ≡ turn f → (i k x : ℕ) → i < f.m → k ≡ i → x ≡ get_or ps k 0 → x ≡ pow f f.a i
+power_held f ps t i k x h same read =
+    read ∙ ap (λ (qs : List ℕ). get_or qs k 0) t ∙ ap (λ (j : ℕ). get_or (turn f) j 0) same ∙ power_at f i h
+
+-- and at i, counted round, a to the i
+pub power_round : (f : Meaning) → Laws f → (ps : List ℕ) → ps ≡ turn f → (i k x : ℕ) → k ≡ i % f.m → x ≡ get_or ps k 0 → x ≡ pow f f.a i
+power_round f l ps t i k x round read = power_held f ps t (i % f.m) k x (mod-lt i l.m_low) round read ∙ pow_mod f l i

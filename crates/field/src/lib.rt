@@ -2,9 +2,22 @@
 // Whoever adds a field shows the laws, and that each question answers by that field's own sum and product.
 #![tactic(auto)]
 
-ghost use Rattle.std.specs.Prelude.{◌≡◌, ◌<◌, ◌≤◌, ◌≢◌, Some, None};
+ghost use Rattle.std.specs.Prelude.{◌≡◌, ◌<◌, ◌≤◌, ◌≢◌, Some, None, ℕ, length, slice_index};
 ghost use Rattle.field.specs.Meaning.{Meaning, Laws, pow};
 ghost use Rattle.field.specs.Rows.{Added, Advanced};
+
+// Puts into each place of a row what `step` gives of its partner and of itself, as far as both rows go.
+fn update<S: Fn(u32, u32) -> u32>(partners: &[u32], row: &mut [u32], step: S)
+    requires { S.IsAlwaysCallable step }
+    ensures done { (i : ℕ) → i < length partners.now → i < length row.old → S.post step (slice_index partners.now i) (slice_index row.old i) (slice_index row.new i) }
+    ensures rest { (i : ℕ) → length partners.now ≤ i → slice_index row.new i ≡ slice_index row.old i }
+{
+    // By index: a proof knows nothing of what is written through `row.iter_mut().zip(partners)`.
+    let size = partners.len().min(row.len());
+    for i in 0..size {
+        row[i] = step(partners[i], row[i]);
+    }
+}
 
 // A field of the symbols 0 to q - 1. A question changes nothing.
 pub trait Field {
@@ -37,24 +50,25 @@ pub trait Field {
     fn power(&self, i: u16) -> u32
         ensures { result ≡ pow (means self.now) (means self.now).a i };
 
+    // x times y, plus z. Said of symbols: where one of them is no symbol, the answer may be any number.
+    fn multiply_add(&self, x: u32, y: u32, z: u32) -> u32
+        ensures { x < (means self.now).q → y < (means self.now).q → z < (means self.now).q → result ≡ (means self.now).sum ((means self.now).prod x y) z }
+    {
+        self.sum(self.product(x, y), z)
+    }
+
     // Adds c times a row to another, place by place, as far as both go.
     fn add_multiple(&self, c: u32, from: &[u32], to: &mut [u32])
         ensures { Added (means self.now) c from.now to.old to.new }
     {
-        let size = from.len().min(to.len());
-        for i in 0..size {
-            to[i] = self.sum(to[i], self.product(c, from[i]));
-        }
+        update(from, to, |x, y| self.multiply_add(c, x, y));
     }
 
     // Multiplies each number by its point and adds w: a step of Horner's rule at many points at once, as far as both rows go.
     fn advance(&self, w: u32, points: &[u32], row: &mut [u32])
         ensures { Advanced (means self.now) w points.now row.old row.new }
     {
-        let size = points.len().min(row.len());
-        for j in 0..size {
-            row[j] = self.sum(self.product(row[j], points[j]), w);
-        }
+        update(points, row, |x, y| self.multiply_add(y, x, w));
     }
 
     ghost lawful: { (x : Self) → Laws (means x) };

@@ -15,17 +15,14 @@ pair v i r h back is =
     ap (λ (w : ℕ). product 8 285 w r) (sym back) ∙ ap (product 8 285 (pow bytes 2 i)) is
     ∙ sym (pow_add bytes bytes_laws 2 i (255 - i) (lit< tt)) ∙ ap (pow bytes 2) whole ∙ bytes_laws.pow_round
 
-pub returns : goal.returns
-returns c =
+pub returns-clause-within : goal.returns-clause-within
+returns-clause-within c h nz =
     let x = c.args.x in
     let r = c.power_of.result in
-    let i = c.logarithm-i.result in
+    let i = c.in_ok-i.i in
+    let l = c.in_ok-i.ensures in
     let k : c.if-i-eq0.power_of ≡ (255 - i) % 255 =
     elim c.if-i-eq0.branch [ then-i-eq0 w ↦ omega (arith, w.power_of-is) | else-i-eq0 w ↦ omega (arith, w.power_of-is) ] in
     let is : r ≡ pow bytes 2 (255 - i) = c.power_of.ensures ∙ ap (pow bytes 2) k ∙ pow_mod bytes bytes_laws (255 - i) in
     let below : r < 256 = subst (λ (n : ℕ). n < 256) (sym is) (pow_in bytes bytes_laws 2 (255 - i) (lit< tt)) in
-    record {
-      within = λ h nz. ap Some (recip_unique bytes bytes_laws x r h nz below (pair x i r c.logarithm-i.ensures.below c.logarithm-i.ensures.back is));
-      zero = λ e. absurd (c.if-x-eq0.false e);
-      beyond = λ o. absurd (omega arith);
-    }
+    ap Some (recip_unique bytes bytes_laws x r h nz below (pair x i r c.in_ok-i.ensures.0 c.in_ok-i.ensures.1 is))

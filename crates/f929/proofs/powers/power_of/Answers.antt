@@ -1,8 +1,0 @@
-use Rattle.std.proofs.Common.{refl}
-use Rattle.field.specs.Tables.{turn}
-use Rattle.f929.proofs.powers.power_of.Goals as goal
-
--- the rule of the table, at all of it: antt computes the powers and compares them
-pub power_in-requires : goal.power_in-requires
-unfolding turn
-power_in-requires c = refl
