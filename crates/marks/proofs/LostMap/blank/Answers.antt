@@ -1,4 +1,4 @@
-use Rattle.std.proofs.Common.{◌≡◌, ℕ, ◌-◌, ◌/◌, ◌%◌, ◌^◌, ◌<◌, ◌≤◌, Bool, true, cond, List, [], ◌++◌, get_or, take, replicate, vec_items, sym, refl, ap, ◌∙◌, subst, arith, rules, le-leb}
+use Rattle.std.proofs.Common.{◌≡◌, ℕ, ◌-◌, ◌/◌, ◌%◌, ◌^◌, ◌<◌, Bool, true, cond, List, [], ◌++◌, get_or, take, replicate, vec_items, sym, ap, ◌∙◌, subst, arith, rules}
 use native.Mathlib.Nat.{sub-zero}
 use lib.Seq.{take-nil}
 use Rattle.std.proofs.lemmas.Nat.{pow_pos}
@@ -17,9 +17,8 @@ invariant_of-self c =
     let at0 : get_or (vec_items c.resize.new.self) (c.args.n / 8) 0 ≡ 0 = ap (λ (l : List ℕ). get_or l (c.args.n / 8) 0) zeros ∙ zeros_at c.bytes_for.result (c.args.n / 8) in
     record { few = omega arith; long = search rules; tidy = subst P (sym at0) (pow_pos (c.args.n % 8)); room = search rules }
 
-pub returns : goal.returns
+pub returns-clause-flags : goal.returns-clause-flags
 unfolding flags
-returns c =
+returns-clause-flags c =
     let zeros : vec_items c.resize.new.self ≡ replicate c.bytes_for.result 0 = filled c.bytes_for.result c.clear.new.self.len 0 c.clear.new.self.items c.resize.new.self.items _ (c.resize.ensures.succeeds (omega arith)) c.clear.ensures.items c.clear.ensures.len c.resize.ensures.items in
-    let low : c.args.n ≤ 928 = omega arith in
-    record { value = sym (le-leb c.args.n 928 low); flags = ap (marks c.args.n) zeros ∙ marks_zeros c.args.n c.bytes_for.result; span = refl }
+    ap (marks c.args.n) zeros ∙ marks_zeros c.args.n c.bytes_for.result
