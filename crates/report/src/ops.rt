@@ -70,6 +70,7 @@ impl Report {
         }
         out[0] = count as u32;
         out[1] = self.met;
+        // The places are counted, since a zip with `iter_mut` proves nothing of what it writes.
         for (i, change) in self.changes.iter().enumerate() {
             out[2 + i] = change.position;
         }
