@@ -1,6 +1,6 @@
 ghost use Rattle.std.specs.Prelude.{◌≡◌, ◌≤◌, true, false, [], length, replicate, Ok, Err, is_ok, IfOk, if◌then◌else◌, count_by, ◌==◌, nat_le, slice_index_or, slice_set};
 ghost use Rattle.marks.specs.Marks.{marks, tidy};
-ghost use Rattle.marks.specs.Held.{flags, span};
+ghost use Rattle.marks.specs.Held.{flags, span, Remarked};
 
 use super::LostMap;
 use crate::bytes::{bytes_for, count_bits, has_bit, is_tidy, write_marks};
@@ -27,14 +27,13 @@ impl LostMap {
         }
         self.n = n;
         self.bytes.clear();
-        let _ = self.bytes.resize(bytes_for(n), 0);
+        self.bytes.resize(bytes_for(n), 0).unwrap();
         Ok(())
     }
 
     // Marks a position; past the last there is nothing to mark.
     pub fn set(&mut self, pos: u32)
-        ensures flags { flags self.new ≡ slice_set (flags self.old) pos true }
-        ensures span { span self.new ≡ span self.old }
+        ensures { Remarked self.old self.new (slice_set (flags self.old) pos true) }
     {
         if pos < self.n {
             self.bytes[(pos / 8) as usize] |= 1 << (pos % 8);
@@ -43,8 +42,7 @@ impl LostMap {
 
     // Takes off the mark of a position.
     pub fn unset(&mut self, pos: u32)
-        ensures flags { flags self.new ≡ slice_set (flags self.old) pos false }
-        ensures span { span self.new ≡ span self.old }
+        ensures { Remarked self.old self.new (slice_set (flags self.old) pos false) }
     {
         if self.has(pos) {
             self.bytes[(pos / 8) as usize] ^= 1 << (pos % 8);
@@ -68,8 +66,7 @@ impl LostMap {
     // Takes over such bytes. Others are refused, and nothing changes.
     pub fn fill(&mut self, map: &[u8]) -> Result<(), Refusal>
         ensures value { result ≡ (if tidy (span self.old) map.now then Ok tt else Err Refusal.Map) }
-        ensures flags { flags self.new ≡ (if is_ok result then marks (span self.old) map.now else flags self.old) }
-        ensures span { span self.new ≡ span self.old }
+        ensures after { Remarked self.old self.new (if is_ok result then marks (span self.old) map.now else flags self.old) }
     {
         if !is_tidy(map, self.n) {
             return Err(Refusal::Map);

@@ -1,4 +1,4 @@
-use Rattle.std.proofs.Common.{◌≤◌, true, length, sym, arith}
+use Rattle.std.proofs.Common.{◌≤◌, true, length, sym, refl, arith}
 use Rattle.std.proofs.lemmas.List.{set_past}
 use Rattle.marks.specs.Held.{flags}
 use Rattle.marks.proofs.Reading.{clean, length_flags}
@@ -10,13 +10,13 @@ invariant_of-self-clause-tidy c =
     let m = c.args.self.now in
     rest_on m.n m.bytes.items c.args.pos _ c.if-pos-self.true (clean m) c.index_mut.ensures.value
 
-pub returns-then-pos-self-clause-flags : goal.returns-then-pos-self-clause-flags
+pub returns-then-pos-self : goal.returns-then-pos-self
 unfolding flags
-returns-then-pos-self-clause-flags c =
+returns-then-pos-self c =
     let m = c.args.self.now in
-    marks_on m.n m.bytes.items c.args.pos _ c.if-pos-self.true (clean m) c.index_mut.ensures.value
+    record { flags = marks_on m.n m.bytes.items c.args.pos _ c.if-pos-self.true (clean m) c.index_mut.ensures.value; span = refl }
 
-pub returns-else-pos-self-clause-flags : goal.returns-else-pos-self-clause-flags
-returns-else-pos-self-clause-flags c =
+pub returns-else-pos-self : goal.returns-else-pos-self
+returns-else-pos-self c =
     let past : length (flags c.args.self.now) ≤ c.args.pos = omega (arith, length_flags c.args.self.now) in
-    sym (set_past _ _ true past)
+    record { flags = sym (set_past _ _ true past); span = refl }

@@ -1,4 +1,4 @@
-use Rattle.std.proofs.Common.{◌<◌, sym, arith}
+use Rattle.std.proofs.Common.{◌<◌, sym, refl, arith}
 use Rattle.marks.specs.Held.{flags}
 use Rattle.marks.proofs.Reading.{clean, marked_at, marked_below, set_off}
 use Rattle.marks.proofs.Turning.{marks_off, rest_off}
@@ -16,12 +16,12 @@ invariant_of-self-clause-tidy c =
     let on = sym c.if-has.ensures in
     rest_off m.n m.bytes.items c.args.pos _ (marked_below m _ on) (clean m) c.index_mut.ensures.value (marked_at m _ on)
 
-pub returns-then-has-clause-flags : goal.returns-then-has-clause-flags
+pub returns-then-has : goal.returns-then-has
 unfolding flags
-returns-then-has-clause-flags c =
+returns-then-has c =
     let m = c.args.self.now in
     let on = sym c.if-has.ensures in
-    marks_off m.n m.bytes.items c.args.pos _ (marked_below m _ on) (clean m) c.index_mut.ensures.value (marked_at m _ on)
+    record { flags = marks_off m.n m.bytes.items c.args.pos _ (marked_below m _ on) (clean m) c.index_mut.ensures.value (marked_at m _ on); span = refl }
 
-pub returns-else-has-clause-flags : goal.returns-else-has-clause-flags
-returns-else-has-clause-flags c = sym (set_off _ _ (sym c.if-has.ensures))
+pub returns-else-has : goal.returns-else-has
+returns-else-has c = record { flags = sym (set_off _ _ (sym c.if-has.ensures)); span = refl }
