@@ -1,6 +1,7 @@
 -- The changes below a position, as a loop finds them.
-use Rattle.std.proofs.Common.{◌≡◌, ℕ, zero, suc, ◌+◌, ◌<◌, ◌≤◌, Bool, true, false, cond, not, ◌&&◌, ◌≢◌, eqb, leb, List, [], ◌∷◌, ◌++◌, map, length, get_or, sym, refl, ap, ◌∙◌, ap₂, subst, ⊎_elim, add-one, arith, length-append, eq-eqb, ne_eqb, le-leb}
+use Rattle.std.proofs.Common.{◌≡◌, ℕ, zero, suc, ◌+◌, ◌<◌, ◌≤◌, Bool, true, false, cond, not, ◌&&◌, ◌≢◌, eqb, leb, List, [], ◌∷◌, ◌++◌, map, length, get_or, sym, ap, ◌∙◌, ap₂, subst, ⊎_elim, add-one, arith, length-append, eq-eqb, ne_eqb, le-leb}
 use borrow.Author.Tests.{lt-leb}
+use Rattle.std.proofs.Math.Bool.{and-false}
 use Rattle.std.specs.List.{zip, enumerate_from}
 use Rattle.std.proofs.lemmas.List.{append-nil, map_push, get_or_read}
 use Rattle.std.proofs.lemmas.List.FromFn.{length-enumerate_from, get_or-enumerate_from}
@@ -82,11 +83,7 @@ too_many w v i position former now t ne full =
     let more : length (which (i + 1) (differ v w)) ≡ length (which i (differ v w)) + 1 = ap length (which_hit (differ v w) i (differs w v i position former now t ne)) ∙ length-append (which i (differ v w)) (i ∷ []) in
     let within = t.within in
     let all = which_grows (differ v w) (i + 1) (length w) (omega arith) in
-    ap (λ b. (eqb (length v) (length w) && leb (length w) 928) && b) (lt-leb (length (changes w v)) 512 (omega arith)) ∙ and_no _
-  where
-    and_no : (b : Bool) → (b && false) ≡ false
-    and_no true = refl
-    and_no false = refl
+    ap (λ b. (eqb (length v) (length w) && leb (length w) 928) && b) (lt-leb (length (changes w v)) 512 (omega arith)) ∙ and-false _
 
 pub few : (w v : List ℕ) → length v ≡ length w → length w ≤ 928 → length (changes w v) ≤ 512 → true ≡ reportable w v
 few w v e n c = sym (ap₂ (λ (a b : Bool). (a && b) && leb (length (changes w v)) 512) (eq-eqb _ _ e) (le-leb _ 928 n) ∙ le-leb _ 512 c)

@@ -49,10 +49,12 @@ impl Report {
                     self.clear();
                     return Err(Refusal::Count);
                 }
-                let _ = self.changes.push(Change {
-                    position: position as u32,
-                    former: *former,
-                });
+                self.changes
+                    .push(Change {
+                        position: position as u32,
+                        former: *former,
+                    })
+                    .unwrap();
             }
         }
         self.met = met;
