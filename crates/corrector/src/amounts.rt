@@ -6,6 +6,7 @@ ghost use Rattle.code.specs.Refusals.{number};
 ghost use Rattle.errata.specs.Pieces.{spread, divisor, mended};
 ghost use Rattle.corrector.specs.MendSteps.{Mended};
 
+use crate::pair::Pair;
 use crate::received::Received;
 use code::Refusal;
 use evaluation::value;
@@ -30,43 +31,36 @@ fn spread_at<F: Fixed<Q, M>, const Q: u32, const M: u32>(field: &F, places: &[u3
 
 impl<'a, F: Fixed<Q, M>, const Q: u32, const M: u32> Received<'a, F, Q, M> {
     // The symbol that belongs at k, or nothing where the divisor is 0.
-    fn mended_at(&self, evaluator: &[u32], locator: &[u32], places: &[u32], k: u32) -> Option<u32>
+    fn mended_at(&self, pair: &Pair<Q>, places: &[u32], k: u32) -> Option<u32>
         requires here { k < (shape self.now.over.code).n }
-        requires left { Within Q evaluator.now }
-        requires right { Within Q locator.now }
         requires inside { Within M places.now }
-        ensures { MatchOption result (divisor (F.Field.means self.now.over.field.now) (shape self.now.over.code) locator.now places.now k ≡ 0)
-            (λ x. (x < Q) × (x ≡ mended (F.Field.means self.now.over.field.now) (shape self.now.over.code) evaluator.now locator.now places.now self.now.word.now k)) }
+        ensures { MatchOption result (divisor (F.Field.means self.now.over.field.now) (shape self.now.over.code) pair.now.locator.now places.now k ≡ 0)
+            (λ x. (x < Q) × (x ≡ mended (F.Field.means self.now.over.field.now) (shape self.now.over.code) pair.now.evaluator.now pair.now.locator.now places.now self.now.word.now k)) }
     {
         let field = self.over.field;
         let turn = field.power((k * self.over.code.first_root() % M) as u16);
-        let constant = locator.first().copied().unwrap_or(0);
+        let constant = pair.locator.first().copied().unwrap_or(0);
         let d = field.product(field.product(constant, turn), spread_at(field, places, k));
         let t = field.reciprocal(d)?;
-        let amount = field.product(value(field, evaluator, M - k), t);
+        let amount = field.product(value(field, pair.evaluator, M - k), t);
         Some(field.sum(self.word[k as usize], field.opposite(amount)))
     }
 
     // Writes the word with the symbols at the places mended. Where a divisor is 0, no codeword is in reach.
     pub(crate) fn mend(
         &self,
-        evaluator: &[u32],
-        locator: &[u32],
+        pair: &Pair<Q>,
         places: &[u32],
         out: &mut [u32],
     ) -> Result<(), Refusal>
         requires room { length out.old ≡ (shape self.now.over.code).n }
-        requires left { Within Q evaluator.now }
-        requires right { Within Q locator.now }
         requires inside { Within (shape self.now.over.code).n places.now }
-        ensures mended { Mended (F.Field.means self.now.over.field.now) (shape self.now.over.code) evaluator.now locator.now places.now self.now.word.now (is_ok result) out.new }
+        ensures mended { Mended (F.Field.means self.now.over.field.now) (shape self.now.over.code) pair.now.evaluator.now pair.now.locator.now places.now self.now.word.now (is_ok result) out.new }
         ensures row { IfErr result (λ e. number e ≡ 12) }
     {
         out.copy_from_slice(self.word);
         for k in places {
-            out[*k as usize] = self
-                .mended_at(evaluator, locator, places, *k)
-                .ok_or(Refusal::OutOfReach)?;
+            out[*k as usize] = self.mended_at(pair, places, *k).ok_or(Refusal::OutOfReach)?;
         }
         Ok(())
     }

@@ -13,6 +13,7 @@ use received::Received;
 
 mod amounts;
 mod locate;
+mod pair;
 mod received;
 mod search;
 mod syndromes;

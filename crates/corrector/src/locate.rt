@@ -1,10 +1,9 @@
 // The positions that are erased or that the locator shows.
-ghost use Rattle.std.specs.Prelude.{length};
 ghost use Rattle.code.specs.Shape.{shape};
-ghost use Rattle.field.specs.Symbols.{Within};
 ghost use Rattle.corrector.specs.MendSteps.{Placed};
 
 use crate::POSITIONS;
+use crate::pair::Pair;
 use crate::received::Received;
 use arrayvec::ArrayVec;
 use evaluation::value;
@@ -19,15 +18,14 @@ pub(crate) struct Located {
 
 impl<'a, F: Fixed<Q, M>, const Q: u32, const M: u32> Received<'a, F, Q, M> {
     // The positions that are erased and those that are roots of the locator.
-    pub(crate) fn locate(&self, locator: &[u32]) -> Located
-        requires symbols { Within Q locator.now }
-        ensures { Placed (F.Field.means self.now.over.field.now) self.now.erased.now locator.now (shape self.now.over.code).n result.places.items result.errors }
+    pub(crate) fn locate(&self, pair: &Pair<Q>) -> Located
+        ensures { Placed (F.Field.means self.now.over.field.now) self.now.erased.now pair.now.locator.now (shape self.now.over.code).n result.places.items result.errors }
     {
         let mut places = ArrayVec::new();
         let mut errors = 0;
         for (i, erased) in self.erased.iter().enumerate() {
             if !*erased {
-                if value(self.over.field, locator, M - i as u32) != 0 {
+                if value(self.over.field, pair.locator, M - i as u32) != 0 {
                     continue;
                 }
                 errors += 1;

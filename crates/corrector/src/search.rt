@@ -1,11 +1,12 @@
 // The search for the codeword in reach.
 ghost use Rattle.std.specs.Prelude.{◌≡◌, ◌≤◌, length, is_ok, IfErr};
-ghost use Rattle.field.specs.Symbols.{Within, all_below};
+ghost use Rattle.field.specs.Symbols.{all_below};
 ghost use Rattle.code.specs.Shape.{shape};
 ghost use Rattle.code.specs.Refusals.{number};
 ghost use Rattle.code.specs.Words.{marked};
 ghost use Rattle.corrector.specs.SearchSteps.{Modifies, Attempted, Repaired, Found};
 
+use crate::pair::Pair;
 use crate::received::Received;
 use crate::syndromes::{modify, write_syndromes};
 use code::{Code, Refusal};
@@ -19,26 +20,18 @@ const COEFFICIENTS: usize = SYNDROMES + 1;
 
 impl<'a, F: Fixed<Q, M>, const Q: u32, const M: u32> Received<'a, F, Q, M> {
     // Locates and mends by an evaluator and a locator, where s positions are erased. A refusal says that these show no codeword in reach.
-    fn attempt(
-        &self,
-        s: u32,
-        evaluator: &[u32],
-        locator: &[u32],
-        out: &mut [u32],
-    ) -> Result<(), Refusal>
+    fn attempt(&self, s: u32, pair: &Pair<Q>, out: &mut [u32]) -> Result<(), Refusal>
         requires number { s ≡ marked (shape self.now.over.code) self.now.erased.now }
         requires few { s ≤ 512 }
-        requires left { Within Q evaluator.now }
-        requires right { Within Q locator.now }
         requires room { length out.old ≡ (shape self.now.over.code).n }
-        ensures attempted { Attempted (F.Field.means self.now.over.field.now) (shape self.now.over.code) self.now.erased.now evaluator.now locator.now self.now.word.now (is_ok result) out.new }
+        ensures attempted { Attempted (F.Field.means self.now.over.field.now) (shape self.now.over.code) self.now.erased.now pair.now.evaluator.now pair.now.locator.now self.now.word.now (is_ok result) out.new }
         ensures row { IfErr result (λ e. number e ≡ 12) }
     {
-        let located = self.locate(locator);
+        let located = self.locate(pair);
         if 2 * located.errors + s > self.over.code.checks() {
             return Err(Refusal::OutOfReach);
         }
-        self.mend(evaluator, locator, located.places.as_slice(), out)
+        self.mend(pair, located.places.as_slice(), out)
     }
 
     // Tries what the least pair of the modified syndromes shows, where s positions are erased.
@@ -62,7 +55,11 @@ impl<'a, F: Fixed<Q, M>, const Q: u32, const M: u32> Received<'a, F, Q, M> {
             &mut left,
             &mut right,
         )?;
-        self.attempt(s, &left[..a as usize], &right[..b as usize], out)
+        let pair = Pair {
+            evaluator: &left[..a as usize],
+            locator: &right[..b as usize],
+        };
+        self.attempt(s, &pair, out)
     }
 
     // Seeks with room for the syndromes of the code, one place for each.

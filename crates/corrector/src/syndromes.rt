@@ -31,8 +31,11 @@ fn multiply<F: Fixed<Q, M>, const Q: u32, const M: u32>(field: &F, x: u32, row: 
     requires symbols { Within Q row.old }
     ensures { Multiplied (F.Field.means field.now) x row.old row.new }
 {
-    for j in (1..row.len()).rev() {
-        row[j] = field.sum(row[j], field.opposite(field.product(x, row[j - 1])));
+    let mut below = 0;
+    for symbol in row.iter_mut() {
+        let here = *symbol;
+        *symbol = field.sum(here, field.opposite(field.product(x, below)));
+        below = here;
     }
 }
 

@@ -13,16 +13,16 @@ loop-k-init g c =
     let f = g.F.Field.means field in
     let size : f.q ≡ g.row.Q = g.met.F.Fixed.size field in
     let w = c.args.self.now.word.now in
-    subst (Mending f (shape c.args.self.now.over.code) c.args.evaluator.now c.args.locator.now c.args.places.now w 0) (sym c.copy_from_slice.ensures.after)
-    (mending_none f (shape c.args.self.now.over.code) c.args.evaluator.now c.args.locator.now c.args.places.now w c.args.self.now.long (within_from f.q w (omega (arith, (g.met.F.Field.lawful field).q_low)) (subst (λ (q : ℕ). all_below q w ≡ true) (sym size) c.args.self.now.symbols)))
+    subst (Mending f (shape c.args.self.now.over.code) c.args.pair.now.evaluator.now c.args.pair.now.locator.now c.args.places.now w 0) (sym c.copy_from_slice.ensures.after)
+    (mending_none f (shape c.args.self.now.over.code) c.args.pair.now.evaluator.now c.args.pair.now.locator.now c.args.places.now w c.args.self.now.long (within_from f.q w (omega (arith, (g.met.F.Field.lawful field).q_low)) (subst (λ (q : ℕ). all_below q w ≡ true) (sym size) c.args.self.now.symbols)))
 
 pub returns-in_err-out-clause-mended : goal.returns-in_err-out-clause-mended
 returns-in_err-out-clause-mended g c =
     let f = g.F.Field.means c.args.self.now.over.field.now in
     let sh = shape c.args.self.now.over.code in
     let w = c.args.self.now.word.now in
-    let a = c.args.evaluator.now in
-    let b = c.args.locator.now in
+    let a = c.args.pair.now.evaluator.now in
+    let b = c.args.pair.now.locator.now in
     let ps = c.args.places.now in
     let failed : is_ok c.from_residual.result ≡ false = search rules in
     let zero : divisor f sh b ps (get_or ps c.loop-k.k-index 0) ≡ 0 = search rules in
@@ -32,4 +32,4 @@ returns-in_err-out-clause-mended g c =
 pub returns-clause-mended : goal.returns-clause-mended
 returns-clause-mended g c =
     let self = c.args.self.now in
-    mending_all (g.F.Field.means self.over.field.now) (shape self.over.code) c.args.evaluator.now c.args.locator.now c.args.places.now self.word.now c.loop-k.k-index c.loop-k.out c.loop-k.invariant c.loop-k-test.false
+    mending_all (g.F.Field.means self.over.field.now) (shape self.over.code) c.args.pair.now.evaluator.now c.args.pair.now.locator.now c.args.places.now self.word.now c.loop-k.k-index c.loop-k.out c.loop-k.invariant c.loop-k-test.false

@@ -41,8 +41,8 @@ returns-in_err-t g c =
     let turn : f.m ≡ g.row.M = g.met.F.Fixed.turn field in
     let sh = shape c.args.self.now.over.code in
     let k = c.args.k in
-    let b = c.args.locator.now in
-    let b_in : Within f.q b = subst (λ (q : ℕ). Within q b) (sym size) c.requires.right in
+    let b = c.args.pair.now.locator.now in
+    let b_in : Within f.q b = subst (λ (q : ℕ). Within q b) (sym size) c.args.pair.now.right in
     let constant : c.unwrap_or-constant.result ≡ get_or b 0 0 = search rules in
     let d = divisor_is f l sh b c.args.places.now k g.row.M c.first_root.result c.unwrap_or-constant.result c.power-turn.result c.product.result c.spread_at.result c.product-d.result
     turn c.first_root.ensures (b_in 0) constant c.power-turn.ensures
@@ -61,20 +61,20 @@ returns g c =
     let turn : f.m ≡ g.row.M = g.met.F.Fixed.turn field in
     let sh = shape c.args.self.now.over.code in
     let k = c.args.k in
-    let a = c.args.evaluator.now in
-    let b = c.args.locator.now in
+    let a = c.args.pair.now.evaluator.now in
+    let b = c.args.pair.now.locator.now in
     let w = c.args.self.now.word.now in
     let in_of : (xs : List ℕ) → Within g.row.Q xs → Within f.q xs = λ xs h. subst (λ (q : ℕ). Within q xs) (sym size) h in
     let constant : c.unwrap_or-constant.result ≡ get_or b 0 0 = search rules in
     let d = divisor_is f l sh b c.args.places.now k g.row.M c.first_root.result c.unwrap_or-constant.result c.power-turn.result c.product.result c.spread_at.result c.product-d.result
-    turn c.first_root.ensures (in_of b c.requires.right 0) constant c.power-turn.ensures
+    turn c.first_root.ensures (in_of b c.args.pair.now.right 0) constant c.power-turn.ensures
     c.product.ensures.within c.spread_at.ensures c.product-d.ensures.within in
     let some : c.reciprocal.result ≡ Some c.in_ok-t.t = search rules in
     let ne : c.product-d.result ≢ 0 = λ z. never c.in_ok-t.t c.reciprocal.result (c.reciprocal.ensures.zero z) some in
     let w_in : Within f.q w = within_from f.q w (omega (arith, l.q_low)) (subst (λ (q : ℕ). all_below q w ≡ true) (sym size) c.args.self.now.symbols) in
     let r = mended_is f l sh b c.args.places.now k a w c.product-d.result c.in_ok-t.t c.value.result c.product-amount.result c.opposite.result c.sum.result
-    (in_of a c.requires.left) (w_in k) d ne
+    (in_of a c.args.pair.now.left) (w_in k) d ne
     (some_is c.in_ok-t.t (f.recip c.product-d.result) c.reciprocal.result some (c.reciprocal.ensures.within d.0 ne))
-    (valued_back f g.row.Q size a c.requires.left g.row.M k c.value.result turn c.value.ensures)
+    (valued_back f g.row.Q size a c.args.pair.now.left g.row.M k c.value.result turn c.value.ensures)
     c.product-amount.ensures.within c.opposite.ensures.within (c.sum.ensures.within (w_in k)) in
     (subst (λ (q : ℕ). c.sum.result < q) size r.0, r.1)

@@ -9,8 +9,8 @@ use Rattle.corrector.proofs.received.Received.repair.Goals as goal
 pub slice_bounds-left-end : goal.slice_bounds-left-end
 slice_bounds-left-end g c = let h = cut_most (c.checks-checks.result + 1) c.in_ok-a.a c.solve.new.left c.in_ok-a.ensures.answer.1.left_counted in search rules
 
-pub slice_bounds-attempt-end : goal.slice_bounds-attempt-end
-slice_bounds-attempt-end g c =
+pub slice_bounds-pair-end : goal.slice_bounds-pair-end
+slice_bounds-pair-end g c =
     let h : c.in_ok-a.a ≤ length c.solve.new.left = cut_most (c.checks-checks.result + 1) c.in_ok-a.a c.solve.new.left c.in_ok-a.ensures.answer.1.left_counted in
     let e = length-take c.in_ok-a.a c.solve.new.left in
     omega arith
@@ -18,8 +18,8 @@ slice_bounds-attempt-end g c =
 pub slice_bounds-right-end : goal.slice_bounds-right-end
 slice_bounds-right-end g c = let h = cut_most (c.checks-checks.result + 1) c.in_ok-a.b c.solve.new.right c.in_ok-a.ensures.answer.1.right_counted in search rules
 
-pub slice_bounds-attempt-end-2 : goal.slice_bounds-attempt-end-2
-slice_bounds-attempt-end-2 g c =
+pub slice_bounds-pair-end-2 : goal.slice_bounds-pair-end-2
+slice_bounds-pair-end-2 g c =
     let h : c.in_ok-a.b ≤ length c.solve.new.right = cut_most (c.checks-checks.result + 1) c.in_ok-a.b c.solve.new.right c.in_ok-a.ensures.answer.1.right_counted in
     let e = length-take c.in_ok-a.b c.solve.new.right in
     omega arith
@@ -37,8 +37,8 @@ order_low s h = omega (arith, ints)
 order_high : (s : ℕ) → s ≤ 512 → order s ≤ℤ pos 511
 order_high s h = omega (arith, ints)
 
-pub attempt-requires : goal.attempt-requires
-attempt-requires g c =
+pub invariant_of-pair : goal.invariant_of-pair
+invariant_of-pair g c =
     let self = c.args.self.now in
     let field = self.over.field.now in
     let f = g.F.Field.means field in
@@ -57,7 +57,7 @@ attempt-requires g c =
     let below : (zs : List ℕ) (n : ℕ) → Within f.q (take n zs) → Within g.row.Q (take n zs) = λ zs n h. subst (λ (q : ℕ). Within q (take n zs)) size h in
     let evaluator = below xs a (left_in f l sh cn self.erased.now w c.args.modified.now ww c.requires.row c.args.s _ c.requires.number (order_is c.args.s c.requires.few) c.checks-checks.result c.checks-checks.ensures _ _ xs ys a b _ solved) in
     let locator = below ys b (right_in f l sh cn self.erased.now w c.args.modified.now ww c.requires.row c.args.s _ c.requires.number (order_is c.args.s c.requires.few) c.checks-checks.result c.checks-checks.ensures _ _ xs ys a b _ solved) in
-    (omega arith, (c.requires.number, (c.requires.few, (evaluator, (locator, c.requires.room)))))
+    record { left = evaluator; right = locator }
 
 pub returns-clause-repaired : goal.returns-clause-repaired
 returns-clause-repaired g c =
