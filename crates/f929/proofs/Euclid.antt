@@ -1,8 +1,8 @@
 -- One step of Euclid's chain of remainders: from a reciprocal of n % x modulo x to one of x modulo n.
-use Rattle.std.proofs.Common.{◌≡◌, ℕ, zero, suc, ◌+◌, ◌-◌, ◌*◌, ◌/◌, ◌%◌, ◌<◌, ◌≤◌, sym, ap, ◌∙◌, ⊎_elim, add-zero, mod-eq_of_lt, mul_comm, div-lt_iff_lt-mul, eq-zero-or-pos, mul-le-mul_left, le-div_iff_mul-le, zero-mul, mul-suc, arith}
-use native.Mathlib.Nat.{div-add-mod, add-mod, mod_self, mod-mod, zero-mod, mul-div_right, mul-add-mod_self_left, mul-sub, mul-lt-mul_of_pos_left}
+use Rattle.std.proofs.Common.{◌≡◌, ℕ, ◌+◌, ◌-◌, ◌*◌, ◌/◌, ◌%◌, ◌<◌, sym, ap, ◌∙◌, ⊎_elim, add-zero, mod-eq_of_lt, mul_comm, eq-zero-or-pos, mul-le-mul_left, zero-mul, mul-suc, arith}
+use native.Mathlib.Nat.{div-add-mod, add-mod, mod_self, mod-mod, zero-mod, mul-div_right, mul-add-mod_self_left, mul-sub}
 use Rattle.f929.specs.Coprime.{Coprime}
-use Rattle.f929.specs.ModLemmas.{mul_mod_l}
+use Rattle.std.proofs.lemmas.Nat.{mul-mod_first}
 
 zeros : (d : ℕ) → (0 % d + 0) % d ≡ 0
 zeros d = rw (add-zero, mod-mod, zero-mod)
@@ -11,7 +11,7 @@ zeros d = rw (add-zero, mod-mod, zero-mod)
 divides : (x n d : ℕ) → x % d ≡ 0 → n % x % d ≡ 0 → n % d ≡ 0
 divides x n d hx hw =
     ap (λ (y : ℕ). y % d) (sym (div-add-mod n x)) ∙ add-mod (x * (n / x)) (n % x) d
-    ∙ ap (λ (y : ℕ). (y + n % x % d) % d) (sym (mul_mod_l x (n / x) d) ∙ ap (λ (y : ℕ). y * (n / x) % d) hx ∙ ap (λ (y : ℕ). y % d) (zero-mul (n / x)))
+    ∙ ap (λ (y : ℕ). (y + n % x % d) % d) (sym (mul-mod_first x (n / x) d) ∙ ap (λ (y : ℕ). y * (n / x) % d) hx ∙ ap (λ (y : ℕ). y % d) (zero-mul (n / x)))
     ∙ ap (λ (y : ℕ). (0 % d + y) % d) hw ∙ zeros d
 
 pub next : (x n : ℕ) → Coprime x n → Coprime (n % x) x
@@ -21,23 +21,10 @@ pub left_over : (x n : ℕ) → 1 < x → Coprime x n → 0 < n % x
 left_over x n h co =
     ⊎_elim (λ e. let one : x ≡ 1 = co x (mod_self x) e in omega arith) (λ p. p) (eq-zero-or-pos (n % x))
 
-some : (y w x : ℕ) → 1 < x → y * w % x ≡ 1 → 0 < y
-some zero w x h e =
-    let z : ◌≡◌ {A = ℕ} 0 1 = sym (zero-mod x) ∙ ap (λ (t : ℕ). t % x) (sym (zero-mul w)) ∙ e in
-    omega arith
-some (suc y) w x h e = omega arith
-
--- what the step back rests on and gives
-pub record Back (x n y : ℕ) : Type 0 where
-  pub some_left : 1 ≤ n * y
-  pub fits : (n * y - 1) / x ≤ n
-  pub below : n - (n * y - 1) / x < n
-  pub right : (n - (n * y - 1) / x) * x % n ≡ 1
-
 module _ (x n y : ℕ) (h : 1 < x) (hn : x < n) (hy : y < x) (e : y * (n % x) % x ≡ 1) where
   -- n * y is 1 more than a multiple of x
   over : n * y % x ≡ 1
-  over = sym (mul_mod_l n y x) ∙ ap (λ (z : ℕ). z % x) (mul_comm (n % x) y) ∙ e
+  over = sym (mul-mod_first n y x) ∙ ap (λ (z : ℕ). z % x) (mul_comm (n % x) y) ∙ e
 
   whole : x * (n * y / x) + 1 ≡ n * y
   whole = ap (λ (z : ℕ). x * (n * y / x) + z) (sym over) ∙ div-add-mod (n * y) x
@@ -47,22 +34,9 @@ module _ (x n y : ℕ) (h : 1 < x) (hn : x < n) (hy : y < x) (e : y * (n % x) % 
       let p : n * y - 1 ≡ x * (n * y / x) = omega (arith, whole) in
       rw p (mul-div_right (n * y / x) (omega arith))
 
-  k_pos : 0 < n * y / x
-  k_pos = (le-div_iff_mul-le {k = x} (omega arith)).1 (omega (arith, mul-le-mul_left n (some y (n % x) x h e)))
-
-  k_below : n * y / x < n
-  k_below = (div-lt_iff_lt-mul {k = x} (omega arith)).1 (mul-lt-mul_of_pos_left hy (omega arith))
-
-  gives_one : (n - (n * y - 1) / x) * x % n ≡ 1
+  -- the step back
+  pub gives_one : (n - (n * y - 1) / x) * x % n ≡ 1
   gives_one =
       let p : (n - n * y / x) * x ≡ n * (x - y) + 1 =
       omega (arith, mul_comm (n - n * y / x) x, mul-sub x n (n * y / x), mul_comm x n, mul-sub n x y, whole, mul-le-mul_left n hy, mul-suc n y) in
       rw (quotient, p) (mul-add-mod_self_left n (x - y) 1 ∙ mod-eq_of_lt (omega arith))
-
-  pub back : Back x n y
-  back = record {
-    some_left = omega (arith, whole);
-    fits = omega (arith, quotient, k_below);
-    below = omega (arith, quotient, k_pos);
-    right = gives_one;
-  }

@@ -1,4 +1,3 @@
 pub mod Coprime
 pub mod Residues
 pub mod ResiduesLemmas
-pub mod ModLemmas

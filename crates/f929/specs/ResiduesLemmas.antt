@@ -6,7 +6,7 @@ use Rattle.field.specs.Meaning.{Laws, pow}
 use Rattle.field.proofs.Order.{Multiplies, early_from, nonzero, apart}
 use Rattle.field.proofs.Reciprocals.{all_turned, recip_found}
 use Rattle.f929.specs.Residues.{residues}
-use Rattle.f929.specs.ModLemmas.{mul_mod_l, mul_mod_r}
+use Rattle.std.proofs.lemmas.Nat.{mul-mod_first, mul-mod_second}
 
 small : (n : ℕ) → n % 929 < 929
 small n = mod-lt n (lit< tt)
@@ -15,13 +15,13 @@ sum_assoc : (x y z : ℕ) → ((x + y) % 929 + z) % 929 ≡ (x + (y + z) % 929) 
 sum_assoc x y z = mod-add-mod (x + y) 929 z ∙ ap (λ (n : ℕ). n % 929) (add_assoc x y z) ∙ sym (add-mod-mod x (y + z) 929)
 
 prod_assoc : (x y z : ℕ) → x * y % 929 * z % 929 ≡ x * (y * z % 929) % 929
-prod_assoc x y z = mul_mod_l (x * y) z 929 ∙ ap (λ (n : ℕ). n % 929) (mul_assoc x y z) ∙ sym (mul_mod_r x (y * z) 929)
+prod_assoc x y z = mul-mod_first (x * y) z 929 ∙ ap (λ (n : ℕ). n % 929) (mul_assoc x y z) ∙ sym (mul-mod_second x (y * z) 929)
 
 prod_one : (x : ℕ) → x < 929 → x * 1 % 929 ≡ x
 prod_one x h = ap (λ (n : ℕ). n % 929) (mul-one x) ∙ mod-eq_of_lt h
 
 distrib : (x y z : ℕ) → x * ((y + z) % 929) % 929 ≡ (x * y % 929 + x * z % 929) % 929
-distrib x y z = mul_mod_r x (y + z) 929 ∙ ap (λ (n : ℕ). n % 929) (mul-add x y z) ∙ add-mod (x * y) (x * z) 929
+distrib x y z = mul-mod_second x (y + z) 929 ∙ ap (λ (n : ℕ). n % 929) (mul-add x y z) ∙ add-mod (x * y) (x * z) 929
 
 -- the computed test: each number but 0 gives 1 with its power 927
 turned : all_turned residues 10 ≡ true

@@ -22,10 +22,7 @@ loop-preserved c =
       simp (total_is, c.shifted-left.ensures.is) (step 4 c.loop.counter c.loop.total c.loop.left c.loop.right c.loop-test.true) ∙ c.loop.invariant.2,
     )
 
-pub returns : goal.returns
-returns c =
+pub returns-clause-is : goal.returns-clause-is
+returns-clause-is c =
     let k : 4 - c.loop.counter ≡ 0 = omega arith in
-    record {
-      is = sym (xor_zero_r c.loop.total) ∙ ap (λ (n : ℕ). bit_xor c.loop.total (terms 4 19 n c.loop.left c.loop.right)) (sym k) ∙ c.loop.invariant.2;
-      within = c.loop.invariant.1;
-    }
+    sym (xor_zero_r c.loop.total) ∙ ap (λ (n : ℕ). bit_xor c.loop.total (terms 4 19 n c.loop.left c.loop.right)) (sym k) ∙ c.loop.invariant.2

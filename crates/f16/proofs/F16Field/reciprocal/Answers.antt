@@ -1,4 +1,4 @@
-use Rattle.std.proofs.Common.{◌≡◌, Some, ap, ◌∙◌, rules}
+use Rattle.std.proofs.Common.{◌≡◌, Some, ap, ◌∙◌}
 use Rattle.field.proofs.Reciprocals.{recip_unique}
 use Rattle.binary.specs.Polynomials.{product}
 use Rattle.f16.specs.Sixteen.{sixteen}
