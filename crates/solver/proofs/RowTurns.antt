@@ -11,39 +11,6 @@ use Rattle.field.proofs.Parts.{cut}
 use Rattle.field.proofs.Lifting.{total_in, zero_of, prod_of, nil_of}
 use Rattle.solver.specs.RowSteps.{Raised, Mixed}
 
--- half way: the places from n on are moved up, those up to n not yet
-pub record Raising (n size : ℕ) (xs ys : List ℕ) : Type 0 where
-  pub low : (j : ℕ) → j ≤ n → get_or ys j 0 ≡ get_or xs j 0
-  pub moved : (j : ℕ) → n ≤ j → j < size → get_or ys (suc j) 0 ≡ get_or xs j 0
-  pub rest : (j : ℕ) → size < j → get_or ys j 0 ≡ get_or xs j 0
-
-pub raising_more : (n size : ℕ) (xs ys : List ℕ) (v : ℕ) → Raising (suc n) size xs ys → suc n < length ys → n < size → v ≡ get_or ys n 0 → Raising n size xs (set ys (suc n) v)
-raising_more n size xs ys v r h hs e = record {
-  low = λ j w. get_or-set_other ys (suc n) j v 0 (omega arith) ∙ r.low j (omega arith);
-  moved = λ j w hj. elim (ℕ_discrete j n) [
-    | yes z ↦ ap (λ i. get_or (set ys (suc n) v) (suc i) 0) z ∙ get_or-set_same ys (suc n) v 0 h ∙ e ∙ r.low n (omega arith) ∙ ap (λ i. get_or xs i 0) (sym z)
-    | no z ↦ get_or-set_other ys (suc n) (suc j) v 0 (omega arith) ∙ r.moved j (omega arith) hj
-  ];
-  rest = λ j w. get_or-set_other ys (suc n) j v 0 (omega arith) ∙ r.rest j w;
-}
-
-pub raised : (size : ℕ) (xs ys : List ℕ) → Raising 0 size xs ys → 0 < length ys → Raised size xs (set ys 0 0)
-raised size xs ys r h = record {
-  first = get_or-set_same ys 0 0 0 h;
-  moved = λ j w. get_or-set_other ys 0 (suc j) 0 0 (omega arith) ∙ r.moved j (omega arith) w;
-  rest = λ j w. get_or-set_other ys 0 j 0 0 (omega arith) ∙ r.rest j w;
-}
-
--- a multiple of a row, place by place
-pub mixed_more : (f : Meaning) (c n : ℕ) (xs to ys : List ℕ) (v : ℕ) → Mixed f c n xs to ys → n < length ys → v ≡ f.sum (get_or ys n 0) (f.prod c (get_or xs n 0)) → Mixed f c (suc n) xs to (set ys n v)
-mixed_more f c n xs to ys v r h e = record {
-  done = λ j w. elim (ℕ_discrete j n) [
-    | yes z ↦ subst (λ i. get_or (set ys n v) i 0 ≡ f.sum (get_or to i 0) (f.prod c (get_or xs i 0))) (sym z) (get_or-set_same ys n v 0 h ∙ e ∙ ap (λ t. f.sum t (f.prod c (get_or xs n 0))) (r.rest n (omega arith)))
-    | no z ↦ get_or-set_other ys n j v 0 z ∙ r.done j (omega arith)
-  ];
-  rest = λ j w. get_or-set_other ys n j v 0 (omega arith) ∙ r.rest j (omega arith);
-}
-
 -- a multiple of the first size places of a row
 pub mixed_by : (f : Meaning) (c size : ℕ) (xs part to ys : List ℕ) → part ≡ take size xs → size ≤ length xs → size ≤ length to → c < f.q → Within f.q xs → Within f.q to
     → Added f c part to ys → Mixed f c size xs to ys
