@@ -18,7 +18,7 @@ use Rattle.field.proofs.Lifting as L
 use Rattle.solver.specs.Pairs.{Term, left, right, Lower, Leads, Congruent, Solution, at}
 use Rattle.solver.specs.Answer.{Solved, side_of}
 use Rattle.solver.specs.RowSteps.{Scaled}
-use Rattle.solver.specs.PairSteps.{Short, Held}
+use Rattle.solver.specs.PairSteps.{InField, Short, Held}
 use Rattle.solver.specs.WriteSteps.{Written}
 use Rattle.solver.specs.Sides as OnSide
 use Rattle.solver.specs.Sides.{on}
@@ -199,15 +199,16 @@ module _ (f : Meaning) (w : Laws f) where
         solved_on side.Right lt k =
             solved n r g b hg held.two held.basis.inr (right b.top) refl right_leads (right_lowest n g hg _ _ _ _ _ _ held.basis lt) xs ys xs' ys' found lx ly k
 
--- the leading coefficient of the pair on each side
-pub top_on : (f : Meaning) (w : Laws f) (g : List ℕ) (l m n : ℕ) (a b : Pair) → Held f w g l m n a b → (side : Side) → get_or (on side (on side a b).left (on side a b).right) (on side a b).top 0 ≢ 0
-top_on f w g l m n a b h side.Left z = h.basis.left.top (L.nil_to f w _ z)
-top_on f w g l m n a b h side.Right z = h.basis.right.top (L.nil_to f w _ z)
+-- the pair on this side leads there
+pub record LeadsOn (q n : ℕ) (side : Side) (p : Pair) : Type 0 where
+  pub top : p.top ≤ n
+  pub some : get_or (on side p.left p.right) p.top 0 ≢ 0
+  pub symbols : InField q p
 
-pub short_on : (f : Meaning) (w : Laws f) (g : List ℕ) (l m n : ℕ) (a b : Pair) → Held f w g l m n a b → (side : Side) → Short f.q n (on side a b)
-short_on f w g l m n a b h side.Left = h.one
-short_on f w g l m n a b h side.Right = h.two
-
-pub top_below : (f : Meaning) (w : Laws f) (g : List ℕ) (l m n : ℕ) (a b : Pair) → Held f w g l m n a b → (side : Side) → (on side a b).top ≤ n
-top_below f w g l m n a b h side.Left = let e : a.top + b.top ≡ n = h.basis.size in omega arith
-top_below f w g l m n a b h side.Right = let e : a.top + b.top ≡ n = h.basis.size in omega arith
+pub leads_on : (f : Meaning) (w : Laws f) (g : List ℕ) (l m n : ℕ) (a b : Pair) → Held f w g l m n a b → (side : Side) → LeadsOn f.q n side (on side a b)
+leads_on f w g l m n a b h side.Left =
+    let e : a.top + b.top ≡ n = h.basis.size in
+    record { top = omega arith; some = λ z. h.basis.left.top (L.nil_to f w _ z); symbols = h.one.symbols }
+leads_on f w g l m n a b h side.Right =
+    let e : a.top + b.top ≡ n = h.basis.size in
+    record { top = omega arith; some = λ z. h.basis.right.top (L.nil_to f w _ z); symbols = h.two.symbols }

@@ -1,26 +1,24 @@
--- One turn of each loop over a row.
-use Rattle.std.proofs.Common.{◌≡◌, ℕ, zero, suc, ◌-◌, ◌<◌, ◌≤◌, List, length, get_or, take, set, sym, ap, ◌∙◌, subst, arith, get_or-set_other, get_or-take, get_or-set_same}
-use native.Mathlib.Decide.{ℕ_discrete}
+-- The coefficients of products of rows, and rows that are cut where they are 0.
+use Rattle.std.proofs.Common.{◌≡◌, ℕ, zero, suc, ◌-◌, ◌<◌, ◌≤◌, List, get_or, take, sym, ap, ◌∙◌, arith, length-take, get_or-take}
+use mathlib.Core.Path.{fun_ext}
+use native.Mathlib.Decide.{ℕ_discrete, dec_lt}
+use Rattle.std.proofs.lemmas.List.{get_or_past}
 use Rattle.algebra.proofs.Convolution as C
 use Rattle.field.specs.Meaning.{Meaning, Laws}
 use Rattle.field.specs.Symbols.{Within}
-use Rattle.field.specs.Rows.{Added}
 use Rattle.field.specs.Sums.{sum_of, coefficient}
 use Rattle.field.specs.Lifted.{lift, sym_of}
-use Rattle.field.proofs.Parts.{cut}
 use Rattle.field.proofs.Lifting.{total_in, zero_of, prod_of, nil_of}
-use Rattle.solver.specs.RowSteps.{Raised, Mixed}
 
--- a multiple of the first size places of a row
-pub mixed_by : (f : Meaning) (c size : ℕ) (xs part to ys : List ℕ) → part ≡ take size xs → size ≤ length xs → size ≤ length to → c < f.q → Within f.q xs → Within f.q to
-    → Added f c part to ys → Mixed f c size xs to ys
-mixed_by f c size xs part to ys e hx ht hc xs-in to_in s =
-    let long : length part ≡ size = ap length e ∙ cut size xs hx in
-    let at : (i : ℕ) → i < size → get_or part i 0 ≡ get_or xs i 0 = λ i h. ap (λ (zs : List ℕ). get_or zs i 0) e ∙ get_or-take size xs i 0 h in
-    record {
-      done = λ i h. s.done i (omega arith) (omega arith) hc (rw (at i h) (xs-in i)) (to_in i) ∙ ap (λ x. f.sum (get_or to i 0) (f.prod c x)) (at i h);
-      rest = λ i h. s.rest i (omega arith);
-    }
+-- what is 0 from size on is the same once it is cut there
+pub cut_same : (size : ℕ) (b : List ℕ) → ((i : ℕ) → size ≤ i → get_or b i 0 ≡ 0) → (i : ℕ) → get_or (take size b) i 0 ≡ get_or b i 0
+cut_same size b z i = elim (dec_lt i size) [
+  | yes h ↦ get_or-take size b i 0 h
+  | no h ↦ get_or_past (take size b) i 0 (simp length-take (omega arith)) ∙ sym (z i (omega arith))
+]
+
+pub cut_in : (q size : ℕ) (b : List ℕ) → Within q b → ((i : ℕ) → size ≤ i → get_or b i 0 ≡ 0) → Within q (take size b)
+cut_in q size b h z i = rw (cut_same size b z i) (h i)
 
 module _ (f : Meaning) (w : Laws f) where
   -- a sum whose terms are 0 from size on
@@ -42,3 +40,6 @@ module _ (f : Meaning) (w : Laws f) where
   coefficient_short k size b g hb hg le z =
       sum_short (suc k) size _ (λ i. w.prod_in _ _ (hb i) (hg (k - i)))
       (λ i h. w.prod_comm _ _ (hb i) (hg (k - i)) ∙ ap (f.prod (get_or g (k - i) 0)) (z i h) ∙ prod_zero _ (hg (k - i))) le
+
+  pub coefficient_cut : (k size : ℕ) (b g : List ℕ) → ((i : ℕ) → size ≤ i → get_or b i 0 ≡ 0) → coefficient f k (take size b) g ≡ coefficient f k b g
+  coefficient_cut k size b g z = ap (λ (h : ℕ → ℕ). sum_of f (suc k) (λ i. f.prod (h i) (get_or g (k - i) 0))) (fun_ext (cut_same size b z))
