@@ -95,9 +95,9 @@ fn repair<F: Fixed<Q, M>, const Q: u32, const M: u32>(
     let mut right = [0; COEFFICIENTS];
     let order = s as i32 - 1;
     match solve(field, modified, code.checks(), order, &mut left, &mut right) {
-        Ok((a, b, _)) => {
-            let evaluator = &left[0..a as usize];
-            let locator = &right[0..b as usize];
+        Ok(pair) => {
+            let evaluator = &left[0..pair.left];
+            let locator = &right[0..pair.right];
             attempt(field, code, erased, s, evaluator, locator, word, out)
         }
         Err(_) => false,

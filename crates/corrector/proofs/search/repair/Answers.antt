@@ -9,10 +9,10 @@ use Rattle.corrector.proofs.Deciding.{cut_most, left_in, right_in, repaired, not
 use Rattle.corrector.proofs.search.repair.Goals as goal
 
 pub slice_bounds-evaluator-end : goal.slice_bounds-evaluator-end
-slice_bounds-evaluator-end g c = let h = cut_most (c.checks.result + 1) c.in-Ok.a c.solve.new.left c.in-Ok.ensures.answer.1.left_counted in search rules
+slice_bounds-evaluator-end g c = let h = cut_most (c.checks.result + 1) c.in-Ok.pair.left c.solve.new.left c.in-Ok.ensures.answer.1.left_counted in search rules
 
 pub slice_bounds-locator-end : goal.slice_bounds-locator-end
-slice_bounds-locator-end g c = let h = cut_most (c.checks.result + 1) c.in-Ok.b c.solve.new.right c.in-Ok.ensures.answer.1.right_counted in search rules
+slice_bounds-locator-end g c = let h = cut_most (c.checks.result + 1) c.in-Ok.pair.right c.solve.new.right c.in-Ok.ensures.answer.1.right_counted in search rules
 
 less_none : (n : ℕ) → n - 0 ≡ n
 less_none n = omega arith
@@ -44,8 +44,8 @@ attempt-requires g c =
     let cn : sh.n ≤ f.m = omega (arith, turn, c.requires.turn) in
     let xs = c.solve.new.left in
     let ys = c.solve.new.right in
-    let a = c.in-Ok.a in
-    let b = c.in-Ok.b in
+    let a = c.in-Ok.pair.left in
+    let b = c.in-Ok.pair.right in
     let solved = c.in-Ok.ensures.answer.1 in
     let below : (zs : List ℕ) (n : ℕ) → Within f.q (take n zs) → Within g.row.Q (take (n - 0) zs) = λ zs n h. subst (λ (q : ℕ). Within q (take (n - 0) zs)) size (subst (λ (k : ℕ). Within f.q (take k zs)) (sym (less_none n)) h) in
     record {
@@ -54,8 +54,8 @@ attempt-requires g c =
       marks = c.requires.marks;
       number = c.requires.number;
       few = c.requires.few;
-      left = below xs a (left_in f l sh cn c.args.erased.now w c.args.modified.now ww c.requires.row c.args.s _ c.requires.number (order_is c.args.s c.requires.few) c.checks.result c.checks.ensures _ _ xs ys a b _ solved);
-      right = below ys b (right_in f l sh cn c.args.erased.now w c.args.modified.now ww c.requires.row c.args.s _ c.requires.number (order_is c.args.s c.requires.few) c.checks.result c.checks.ensures _ _ xs ys a b _ solved);
+      left = below xs a (left_in f l sh cn c.args.erased.now w c.args.modified.now ww c.requires.row c.args.s _ c.requires.number (order_is c.args.s c.requires.few) c.checks.result c.checks.ensures _ _ xs ys c.in-Ok.pair solved);
+      right = below ys b (right_in f l sh cn c.args.erased.now w c.args.modified.now ww c.requires.row c.args.s _ c.requires.number (order_is c.args.s c.requires.few) c.checks.result c.checks.ensures _ _ xs ys c.in-Ok.pair solved);
       long = c.requires.word.long;
       symbols = within_from g.row.Q w (omega (arith, size, l.q_low)) c.requires.word.symbols;
       room = c.requires.room;
@@ -75,13 +75,13 @@ returns-in-Ok g c =
     let cn : sh.n ≤ f.m = omega (arith, turn, c.requires.turn) in
     let xs = c.solve.new.left in
     let ys = c.solve.new.right in
-    let a = c.in-Ok.a in
-    let b = c.in-Ok.b in
+    let a = c.in-Ok.pair.left in
+    let b = c.in-Ok.pair.right in
     let done = c.attempt.result in
     let u = c.attempt.new.out in
     let by : Attempted f sh erased (take a xs) (take b ys) w done u =
     subst (λ (k : ℕ). Attempted f sh erased (take k xs) (take b ys) w done u) (less_none a) (subst (λ (k : ℕ). Attempted f sh erased (take (a - 0) xs) (take k ys) w done u) (less_none b) c.attempt.ensures) in
-    repaired f l sh cn erased w c.args.modified.now ww c.requires.row c.args.s _ c.requires.number (order_is c.args.s c.requires.few) c.checks.result c.checks.ensures _ _ xs ys a b _ c.in-Ok.ensures.answer.1 done u by
+    repaired f l sh cn erased w c.args.modified.now ww c.requires.row c.args.s _ c.requires.number (order_is c.args.s c.requires.few) c.checks.result c.checks.ensures _ _ xs ys c.in-Ok.pair c.in-Ok.ensures.answer.1 done u by
 
 pub returns-in-Err : goal.returns-in-Err
 returns-in-Err g c =
