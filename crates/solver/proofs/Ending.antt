@@ -1,9 +1,10 @@
 -- After the last step: the lower pair, divided by its leading coefficient, is the least.
-use Rattle.std.proofs.Common.{◌≡◌, ℕ, zero, suc, ◌+◌, ◌<◌, ◌≤◌, ◌≢◌, List, [], ◌∷◌, length, get_or, take, drop, ℤ, pos, ◌+ℤ◌, sym, refl, ap, ◌∙◌, subst, arith, length-take, get_or-take}
+use Rattle.std.proofs.Common.{◌≡◌, ℕ, zero, suc, ◌+◌, ◌-◌, ◌<◌, ◌≤◌, ◌≢◌, List, [], ◌∷◌, length, get_or, take, drop, ℤ, pos, ◌+ℤ◌, sym, refl, ap, ◌∙◌, subst, arith, length-take, get_or-take}
 use mathlib.Core.Path.{fun_ext}
 use Prim.Native.Nat.{Fin}
 use native.Mathlib.Decide.{dec_lt}
-use Rattle.std.proofs.lemmas.List.{get_or_past}
+use Rattle.std.proofs.lemmas.Grind.{same_number_lists}
+use Rattle.std.proofs.lemmas.List.{get_or_past, get_or-drop, length-drop}
 use Rattle.algebra.specs.Field.{Field}
 use Rattle.algebra.specs.Lead.{Left, Right}
 use Rattle.algebra.specs.Poly.{In}
@@ -26,19 +27,14 @@ use Rattle.solver.specs.declared.LeastPair.{LeastPair}
 use Rattle.solver.specs.declared.Side.{Side}
 use Rattle.solver.specs.declared.Side.TheVariants as side
 use Rattle.solver.specs.declared.pair.Pair.{Pair}
-use Rattle.solver.proofs.RowTurns.{prod_zero}
+use Rattle.solver.proofs.RowProducts.{prod_zero}
 use Rattle.solver.proofs.TermOrder.{le_in, le_out, lt_in, lt_out}
 
 -- rows of one length that agree from n on
 drop_same : (n : ℕ) (xs ys : List ℕ) → length xs ≡ length ys → ((i : ℕ) → n ≤ i → get_or xs i 0 ≡ get_or ys i 0) → drop n xs ≡ drop n ys
-drop_same zero [] [] e h = refl
-drop_same zero [] (y ∷ ys) e h = absurd (omega arith)
-drop_same zero (x ∷ xs) [] e h = absurd (omega arith)
-drop_same zero (x ∷ xs) (y ∷ ys) e h = ap (λ t. t ∷ xs) (h 0 (omega arith)) ∙ ap (λ t. y ∷ t) (drop_same zero xs ys (omega arith) (λ i d. h (suc i) (omega arith)))
-drop_same (suc n) [] [] e h = refl
-drop_same (suc n) [] (y ∷ ys) e h = absurd (omega arith)
-drop_same (suc n) (x ∷ xs) [] e h = absurd (omega arith)
-drop_same (suc n) (x ∷ xs) (y ∷ ys) e h = drop_same n xs ys (omega arith) (λ i d. h (suc i) (omega arith))
+drop_same n xs ys e h =
+    same_number_lists (drop n xs) (drop n ys) (length-drop n xs ∙ ap (λ k. k - n) e ∙ sym (length-drop n ys))
+    (λ k d. get_or-drop n xs k 0 ∙ h (n + k) (omega arith) ∙ sym (get_or-drop n ys k 0))
 
 take_past : (z : ℕ) (xs : List ℕ) (i : ℕ) → z ≤ i → get_or (take z xs) i 0 ≡ 0
 take_past z xs i h = get_or_past (take z xs) i 0 (simp length-take (omega arith))

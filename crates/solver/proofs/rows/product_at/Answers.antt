@@ -2,7 +2,7 @@ use Rattle.std.proofs.Common.{◌≡◌, ◌-◌, ◌<◌, length, get_or, ap, �
 use Rattle.std.proofs.lemmas.List.{get_or_past}
 use Rattle.field.specs.Sums.{sum_of}
 use Rattle.field.proofs.Lifting.{total_in}
-use Rattle.solver.proofs.RowTurns.{coefficient_short}
+use Rattle.solver.proofs.RowProducts.{coefficient_short}
 use Rattle.solver.proofs.rows.product_at.Goals as goal
 
 pub loop-i-preserved : goal.loop-i-preserved

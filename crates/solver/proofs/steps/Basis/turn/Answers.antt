@@ -1,7 +1,6 @@
-use Rattle.std.proofs.Common.{◌≡◌, ◌+◌, ◌<◌, inl, inr, refl, arith}
-use Rattle.solver.specs.Sides.{Lower}
-use Rattle.solver.proofs.PairPolys.{discrepancy_in}
-use Rattle.solver.proofs.Turns.{reached_left, reached_right}
+use Rattle.std.proofs.Common.{inl, inr}
+use Rattle.solver.specs.declared.Side.TheVariants.{Left, Right}
+use Rattle.solver.proofs.Turns.{ready, reached_left, reached_right}
 use Rattle.solver.proofs.steps.Basis.turn.Goals as goal
 use Rattle.solver.proofs.steps.Basis.turn.Goals.{then-x-eq0, else-x-eq0, then-y-eq0, else-y-eq0}
 
@@ -13,45 +12,33 @@ discrepancies-x-requires-clause-two g c = (c.requires.reached.held (g.met.F.Fiel
 
 pub lower-requires : goal.lower-requires
 lower-requires g c =
-    let few = c.args.congruence.now.few in
-    let size : c.args.self.now.left.top + c.args.self.now.right.top ≡ c.args.k = (c.requires.reached.held (g.met.F.Field.lawful c.args.congruence.now.field.now)).basis.size in
-    (omega (arith, c.requires.below), omega (arith, c.requires.below))
+    let problem = c.args.congruence.now in
+    let field = problem.field.now in
+    let w = g.met.F.Field.lawful field in
+    let at = ready (g.F.Field.means field) w problem.g.now _ _ c.args.k _ _ problem.row c.requires.below problem.few (c.requires.reached.held w) in
+    ((at Left).top, (at Right).top)
 
 pub step-requires : goal.step-requires
 step-requires g c =
     let problem = c.args.congruence.now in
-    let few = problem.few in
-    let f = g.F.Field.means problem.field.now in
-    let w = g.met.F.Field.lawful problem.field.now in
-    let h = c.requires.reached.held w in
-    let size : c.args.self.now.left.top + c.args.self.now.right.top ≡ c.args.k = h.basis.size in
-    let x_in : c.discrepancies-x.result.0 < f.q = rw c.discrepancies-x.ensures.left (discrepancy_in f w problem.g.now problem.row c.args.k c.args.self.now.left h.one) in
-    let y_in : c.discrepancies-x.result.1 < f.q = rw c.discrepancies-x.ensures.right (discrepancy_in f w problem.g.now problem.row c.args.k c.args.self.now.right h.two) in
-    record {
-      room = (omega (arith, c.requires.below, h.one.sized), omega (arith, c.requires.below, h.two.sized));
-      tops = (omega (arith, c.requires.below), omega (arith, c.requires.below));
-      symbols = (x_in, y_in);
-      one = h.one.symbols;
-      two = h.two.symbols;
-    }
+    let field = problem.field.now in
+    let w = g.met.F.Field.lawful field in
+    let at = ready (g.F.Field.means field) w problem.g.now _ _ c.args.k _ _ problem.row c.requires.below problem.few (c.requires.reached.held w) in
+    let a = at Left in
+    let b = at Right in
+    let d = c.discrepancies-x.ensures in
+    record { room = (a.size, b.size); tops = (a.top, b.top); symbols = (rw d.left a.below, rw d.right b.below); one = a.symbols; two = b.symbols }
 
 pub step-requires-in-Right : goal.step-requires-in-Right
 step-requires-in-Right g c =
     let problem = c.args.congruence.now in
-    let few = problem.few in
-    let f = g.F.Field.means problem.field.now in
-    let w = g.met.F.Field.lawful problem.field.now in
-    let h = c.requires.reached.held w in
-    let size : c.args.self.now.left.top + c.args.self.now.right.top ≡ c.args.k = h.basis.size in
-    let x_in : c.discrepancies-x.result.0 < f.q = rw c.discrepancies-x.ensures.left (discrepancy_in f w problem.g.now problem.row c.args.k c.args.self.now.left h.one) in
-    let y_in : c.discrepancies-x.result.1 < f.q = rw c.discrepancies-x.ensures.right (discrepancy_in f w problem.g.now problem.row c.args.k c.args.self.now.right h.two) in
-    record {
-      room = (omega (arith, c.requires.below, h.two.sized), omega (arith, c.requires.below, h.one.sized));
-      tops = (omega (arith, c.requires.below), omega (arith, c.requires.below));
-      symbols = (y_in, x_in);
-      one = h.two.symbols;
-      two = h.one.symbols;
-    }
+    let field = problem.field.now in
+    let w = g.met.F.Field.lawful field in
+    let at = ready (g.F.Field.means field) w problem.g.now _ _ c.args.k _ _ problem.row c.requires.below problem.few (c.requires.reached.held w) in
+    let a = at Left in
+    let b = at Right in
+    let d = c.discrepancies-x.ensures in
+    record { room = (b.size, a.size); tops = (b.top, a.top); symbols = (rw d.right b.below, rw d.left a.below); one = b.symbols; two = a.symbols }
 
 pub returns-after-x-eq0 : goal.returns-after-x-eq0
 returns-after-x-eq0 g c =
