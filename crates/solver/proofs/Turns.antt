@@ -16,7 +16,6 @@ use Rattle.solver.specs.declared.Side.TheVariants.{Left, Right}
 use Rattle.solver.specs.declared.pair.Pair.{Pair}
 use Rattle.solver.specs.declared.steps.Basis.{Basis as Two}
 use Rattle.solver.specs.declared.steps.Known.{Known}
-use Rattle.solver.specs.declared.steps.Known.TheVariants as Known
 use Rattle.solver.proofs.PairPolys as P
 
 module _ (f : Meaning) (w : Laws f) where

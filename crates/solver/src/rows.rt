@@ -36,8 +36,8 @@ pub(crate) fn product_at<F: Field>(field: &F, b: &[u32], g: &[u32], k: usize) ->
     ensures { result ≡ coefficient (F.Field.means field.now) k b.now g.now }
 {
     let mut total = 0;
-    for (i, x) in b.iter().enumerate() {
-        total = field.sum(total, field.product(*x, g[k - i]));
+    for (x, y) in b.iter().zip(g[..=k].iter().rev()) {
+        total = field.sum(total, field.product(*x, *y));
     }
     total
 }

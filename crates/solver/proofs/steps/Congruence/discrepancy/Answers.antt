@@ -1,6 +1,6 @@
-use Rattle.std.proofs.Common.{◌<◌, ◌≤◌, get_or, ap, ◌∙◌, arith}
+use Rattle.std.proofs.Common.{◌<◌, get_or, ap, ◌∙◌}
 use Rattle.field.proofs.Lifting.{coefficient_in}
-use Rattle.solver.proofs.RowProducts.{cut_in, coefficient_cut}
+use Rattle.solver.proofs.RowProducts.{coefficient_cut}
 use Rattle.solver.proofs.steps.Congruence.discrepancy.Goals as goal
 
 pub returns : goal.returns
