@@ -12,6 +12,7 @@ use Rattle.code.specs.Words.{Word, Codeword, Near, count, marked, check_sum}
 use Rattle.code.proofs.Distance.{one_in_reach}
 use Rattle.solver.specs.Pairs.{Least}
 use Rattle.solver.specs.Answer.{Counts, Solved, refusal_of}
+use Rattle.solver.specs.declared.Side.{Side}
 use Rattle.solver.proofs.Refusing.{accepts}
 use Rattle.solver.proofs.Ending.{within}
 use Rattle.errata.specs.Pieces.{modified}
@@ -64,9 +65,15 @@ cut_at z n xs k i = elim (dec_lt i n) [
 module _ (f : Meaning) (l : Laws f) (c : Shape) (cn : c.n ≤ f.m) (erased : List Bool) (w g : List ℕ) (ww : Word f.q c.n w) (row : Modifies f c erased w g)
     (s : ℕ) (r : ℤ) (s_is : s ≡ marked c erased) (order : pos s ≡ r +ℤ pos 1) where
   -- the least pair, cut at its counts, and what was tried by it
-  module _ (n : ℕ) (n_is : n ≡ c.checks) (xs ys xs' ys' : List ℕ) (a b side : ℕ) (at_n : Solved f g n r xs ys xs' ys' a b side) where
-    solved : Solved f g c.checks r xs ys xs' ys' a b side
-    solved = subst (λ k. Solved f g k r xs ys xs' ys' a b side) n_is at_n
+  module _ (n : ℕ) (n_is : n ≡ c.checks) (xs ys xs' ys' : List ℕ) (found : ℕ × ℕ × Side) (at_n : Solved f g n r xs ys xs' ys' found) where
+    abbrev a : ℕ
+    a = found.0
+
+    abbrev b : ℕ
+    b = found.1
+
+    solved : Solved f g c.checks r xs ys xs' ys' found
+    solved = subst (λ k. Solved f g k r xs ys xs' ys' found) n_is at_n
 
     cut : Least f c.checks r g (take a xs') (take b ys') solved.lead
     cut = least_same f l c.checks r g (take (c.checks + 1) xs') (take (c.checks + 1) ys') (take a xs') (take b ys') solved.lead

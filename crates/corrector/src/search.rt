@@ -56,8 +56,8 @@ impl<'a, F: Fixed<Q, M>, const Q: u32, const M: u32> Received<'a, F, Q, M> {
             &mut right,
         )?;
         let pair = Pair {
-            evaluator: &left[..a as usize],
-            locator: &right[..b as usize],
+            evaluator: &left[..a],
+            locator: &right[..b],
         };
         self.attempt(s, &pair, out)
     }

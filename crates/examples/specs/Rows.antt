@@ -5,6 +5,7 @@ use Rattle.code.specs.Shape.{Shape}
 use Rattle.report.specs.Written.{no_report, refused, over, written}
 use Rattle.bay.specs.Plain.{Plain, testing, encoding, correcting}
 use Rattle.solver.specs.Answer.{Answered}
+use Rattle.solver.specs.declared.Side.{Side}
 
 -- what a call on a bay gives
 pub data Gives : Type 0 where
@@ -20,8 +21,8 @@ pub data Gives : Type 0 where
 pub data Row : Type 0 where
   -- a field, a code, a word, the positions that are marked, and what a call then gives
   on_bay : Meaning → Shape → List ℕ → List ℕ → Gives → Row
-  -- a field, the coefficients of g, their count n, the order r, the halves of the pair that solve finds, and the three numbers that it answers
-  on_solve : Meaning → List ℕ → ℕ → ℤ → List ℕ → List ℕ → ℕ × ℕ × ℕ → Row
+  -- a field, the coefficients of g, their count n, the order r, the halves of the pair that solve finds, and what it answers
+  on_solve : Meaning → List ℕ → ℕ → ℤ → List ℕ → List ℕ → ℕ × ℕ × Side → Row
 
 -- n positions, of which those listed are marked
 abbrev pub marks_at : ℕ → List ℕ → List Bool
@@ -50,6 +51,6 @@ Gave f c p (correct_answers number) = correcting f p ≡ refused number p
 -- an example is right; solve is given buffers of n + 1 zeros, and the halves are written from their start
 abbrev pub Holds : Row → Type 0
 Holds (on_bay f c word marked gives) = Gave f c (bay_with c word marked) gives
-Holds (on_solve f g n r a b answer) =
+Holds (on_solve f g n r a b found) =
     let buffer = replicate (n + 1) 0 in
-    Answered f g n r buffer buffer (over a buffer) (over b buffer) (Ok answer)
+    Answered f g n r buffer buffer (over a buffer) (over b buffer) (Ok found)

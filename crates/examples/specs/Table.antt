@@ -5,6 +5,7 @@ use Rattle.code.specs.Shape.{Shape}
 use Rattle.f16.specs.Sixteen.{sixteen}
 use Rattle.f256.specs.Bytes.{bytes}
 use Rattle.f929.specs.Residues.{residues}
+use Rattle.solver.specs.declared.Side.TheVariants.{Left, Right}
 use Rattle.examples.specs.Rows.{Row, on_bay, on_solve, test_absent, encode_gives, correct_gives, correct_answers, Holds}
 
 -- a label of three symbols, two of them checks
@@ -34,9 +35,9 @@ table =
     ∷ on_bay sixteen control (0 ∷ 0 ∷ 1 ∷ 0 ∷ 0 ∷ 0 ∷ 0 ∷ 1 ∷ 0 ∷ 0 ∷ 0 ∷ 0 ∷ 0 ∷ 0 ∷ 0 ∷ []) [] (correct_gives (replicate 15 0) (2 ∷ 0 ∷ 2 ∷ 7 ∷ 1 ∷ 1 ∷ []))
     ∷ on_bay bytes reel (0 ∷ 14 ∷ 7 ∷ 0 ∷ []) (0 ∷ []) (correct_gives (8 ∷ 14 ∷ 7 ∷ 1 ∷ []) (2 ∷ 1 ∷ 0 ∷ 3 ∷ 0 ∷ 0 ∷ []))
     ∷ on_bay bytes reel (0 ∷ 14 ∷ 7 ∷ 0 ∷ []) (0 ∷ 1 ∷ []) (correct_answers 12)
-    ∷ on_solve sixteen (15 ∷ 10 ∷ 0 ∷ 8 ∷ 1 ∷ 0 ∷ []) 6 (neg_ℤ (pos 1)) (8 ∷ []) (12 ∷ 8 ∷ 1 ∷ []) (1, 3, 1)
-    ∷ on_solve sixteen (0 ∷ []) 1 (pos 0) [] (1 ∷ []) (0, 1, 1)
-    ∷ on_solve sixteen (0 ∷ []) 1 (pos 1) (0 ∷ 1 ∷ []) [] (2, 0, 0)
+    ∷ on_solve sixteen (15 ∷ 10 ∷ 0 ∷ 8 ∷ 1 ∷ 0 ∷ []) 6 (neg_ℤ (pos 1)) (8 ∷ []) (12 ∷ 8 ∷ 1 ∷ []) (1, 3, Right)
+    ∷ on_solve sixteen (0 ∷ []) 1 (pos 0) [] (1 ∷ []) (0, 1, Right)
+    ∷ on_solve sixteen (0 ∷ []) 1 (pos 1) (0 ∷ 1 ∷ []) [] (2, 0, Left)
     ∷ []
 
 -- every example of the table is right

@@ -1,9 +1,10 @@
 -- After the last step: the lower pair, divided by its leading coefficient, is the least.
-use Rattle.std.proofs.Common.{◌≡◌, ℕ, zero, suc, ◌+◌, ◌<◌, ◌≤◌, ◌≢◌, List, [], ◌∷◌, length, get_or, take, drop, ℤ, pos, ◌+ℤ◌, sym, refl, ap, ◌∙◌, arith, length-take, get_or-take}
+use Rattle.std.proofs.Common.{◌≡◌, ℕ, ◌+◌, ◌-◌, ◌<◌, ◌≤◌, ◌≢◌, List, length, get_or, take, drop, ℤ, pos, ◌+ℤ◌, sym, refl, ap, ◌∙◌, subst, arith, length-take, get_or-take}
 use mathlib.Core.Path.{fun_ext}
 use Prim.Native.Nat.{Fin}
 use native.Mathlib.Decide.{dec_lt}
-use Rattle.std.proofs.lemmas.List.{get_or_past}
+use Rattle.std.proofs.lemmas.Grind.{same_number_lists}
+use Rattle.std.proofs.lemmas.List.{get_or_past, get_or-drop, length-drop}
 use Rattle.algebra.specs.Field.{Field}
 use Rattle.algebra.specs.Lead.{Left, Right}
 use Rattle.algebra.specs.Poly.{In}
@@ -16,33 +17,35 @@ use Rattle.field.specs.Lifted.{lift, poly, sym_of}
 use Rattle.field.proofs.Symbols.{within_from, below_from}
 use Rattle.field.proofs.Lifting as L
 use Rattle.solver.specs.Pairs.{Term, left, right, Lower, Leads, Congruent, Solution, at}
-use Rattle.solver.specs.Answer.{Solved, Counts, side_of}
-use Rattle.solver.specs.RowSteps.{Scaled, Counted}
-use Rattle.solver.specs.PairSteps.{Held}
+use Rattle.solver.specs.Answer.{Solved, side_of, side_number}
+use Rattle.solver.specs.RowSteps.{Scaled}
+use Rattle.solver.specs.PairSteps.{InField, Short, Held}
 use Rattle.solver.specs.WriteSteps.{Written}
+use Rattle.solver.specs.Sides as OnSide
+use Rattle.solver.specs.Sides.{on}
+use Rattle.solver.specs.declared.Side.{Side}
+use Rattle.solver.specs.declared.Side.TheVariants as side
 use Rattle.solver.specs.declared.pair.Pair.{Pair}
-use Rattle.solver.proofs.RowTurns.{prod_zero}
+use Rattle.solver.proofs.RowProducts.{prod_zero}
 use Rattle.solver.proofs.TermOrder.{le_in, le_out, lt_in, lt_out}
 
 -- rows of one length that agree from n on
 drop_same : (n : ℕ) (xs ys : List ℕ) → length xs ≡ length ys → ((i : ℕ) → n ≤ i → get_or xs i 0 ≡ get_or ys i 0) → drop n xs ≡ drop n ys
-drop_same zero [] [] e h = refl
-drop_same zero [] (y ∷ ys) e h = absurd (omega arith)
-drop_same zero (x ∷ xs) [] e h = absurd (omega arith)
-drop_same zero (x ∷ xs) (y ∷ ys) e h = ap (λ t. t ∷ xs) (h 0 (omega arith)) ∙ ap (λ t. y ∷ t) (drop_same zero xs ys (omega arith) (λ i d. h (suc i) (omega arith)))
-drop_same (suc n) [] [] e h = refl
-drop_same (suc n) [] (y ∷ ys) e h = absurd (omega arith)
-drop_same (suc n) (x ∷ xs) [] e h = absurd (omega arith)
-drop_same (suc n) (x ∷ xs) (y ∷ ys) e h = drop_same n xs ys (omega arith) (λ i d. h (suc i) (omega arith))
+drop_same n xs ys e h =
+    same_number_lists (drop n xs) (drop n ys) (length-drop n xs ∙ ap (λ k. k - n) e ∙ sym (length-drop n ys))
+    (λ k d. get_or-drop n xs k 0 ∙ h (n + k) (omega arith) ∙ sym (get_or-drop n ys k 0))
+
+-- the side that a term stands on, and that its number is the side's
+leading_side : Term → Side
+leading_side (left i) = side.Left
+leading_side (right j) = side.Right
+
+numbered : (t : Term) → side_number (leading_side t) ≡ side_of t
+numbered (left i) = refl
+numbered (right j) = refl
 
 take_past : (z : ℕ) (xs : List ℕ) (i : ℕ) → z ≤ i → get_or (take z xs) i 0 ≡ 0
 take_past z xs i h = get_or_past (take z xs) i 0 (simp length-take (omega arith))
-
-counts_of : (z : ℕ) (xs : List ℕ) (c : ℕ) → Counted z xs c → Counts (take z xs) c
-counts_of z xs c k = record {
-  rest = λ i h. elim (dec_lt i z) [ yes d ↦ get_or-take z xs i 0 d ∙ k.rest i h d | no d ↦ take_past z xs i (omega arith) ];
-  top = λ i h e. let d : i < z = omega (arith, k.within) in k.top i h (sym (get_or-take z xs i 0 d) ∙ e);
-}
 
 module _ (f : Meaning) (w : Laws f) where
   abbrev F : Field (Fin f.q)
@@ -73,19 +76,39 @@ module _ (f : Meaning) (w : Laws f) where
   pub in_of : (n : ℕ) (g u v : List ℕ) → Within f.q g → Within f.q v → Congruent f n g u v → In F n (po g) (po u) (po v)
   in_of n g u v hg hv t j h = ap s (t j h) ∙ L.coefficient_of f w j v g hv hg
 
-  -- a pair (a, b) that leads lowest, once it is divided by its leading coefficient and written
-  module _ (n : ℕ) (r : ℤ) (g a b : List ℕ) (hg : Within f.q g) (ha : Within f.q a) (hb : Within f.q b)
-      (short-a : (i : ℕ) → n < i → get_or a i 0 ≡ 0) (short-b : (i : ℕ) → n < i → get_or b i 0 ≡ 0)
-      (inside : In F n (po g) (po a) (po b)) (lead : Term) (leads : Leads r a b lead)
+  -- a pair that leads lowest, once it is divided by its leading coefficient and written
+  module _ (n : ℕ) (r : ℤ) (g : List ℕ) (p : Pair) (hg : Within f.q g) (short : Short f.q n p) (inside : In F n (po g) (po p.left) (po p.right))
+      (lead : Term) (top_is : get_or (on (leading_side lead) p.left p.right) p.top 0 ≡ at p.left p.right lead) (leads : Leads r p.left p.right lead)
       (low : (u v : List ℕ) (t : Term) → Solution f n g u v → Leads r u v t → Lower r t lead → ⊥)
-      (xs ys xs' ys' : List ℕ) (ca cb : ℕ) (lx : length xs' ≡ length xs) (ly : length ys' ≡ length ys)
-      (k : Written f (f.recip (at a b lead)) (n + 1) a b xs ys xs' ys' ca cb) where
-    hc : f.recip (at a b lead) < f.q
+      (xs ys xs' ys' : List ℕ) (found : ℕ × ℕ × Side) (lx : length xs' ≡ length xs) (ly : length ys' ≡ length ys)
+      (k : Written f (leading_side lead) (n + 1) p xs ys xs' ys' found) where
+    abbrev a : List ℕ
+    a = p.left
+
+    abbrev b : List ℕ
+    b = p.right
+
+    abbrev c : ℕ
+    c = f.recip (at a b lead)
+
+    ha : Within f.q a
+    ha = short.symbols.left_in
+
+    hb : Within f.q b
+    hb = short.symbols.right_in
+
+    hc : c < f.q
     hc = w.recip_in _ (at_in a b ha hb lead) leads.there
 
-    each : (t : Term) → at (take (n + 1) xs') (take (n + 1) ys') t ≡ f.prod (f.recip (at a b lead)) (at a b t)
-    each (left i) = scaled_at _ n a xs xs' hc short-a k.left i
-    each (right j) = scaled_at _ n b ys ys' hc short-b k.right j
+    left_is : Scaled f c (n + 1) a xs xs'
+    left_is = subst (λ x. Scaled f (f.recip x) (n + 1) a xs xs') top_is k.left
+
+    right_is : Scaled f c (n + 1) b ys ys'
+    right_is = subst (λ x. Scaled f (f.recip x) (n + 1) b ys ys') top_is k.right
+
+    each : (t : Term) → at (take (n + 1) xs') (take (n + 1) ys') t ≡ f.prod c (at a b t)
+    each (left i) = scaled_at _ n a xs xs' hc (λ i d. short.left_short i (omega (arith, short.sized))) left_is i
+    each (right j) = scaled_at _ n b ys ys' hc (λ i d. short.right_short i (omega (arith, short.sized))) right_is j
 
     monic : at (take (n + 1) xs') (take (n + 1) ys') lead ≡ 1
     monic = let h = at_in a b ha hb lead in each lead ∙ w.prod_comm _ _ hc h ∙ w.prod_recip _ h leads.there
@@ -101,12 +124,12 @@ module _ (f : Meaning) (w : Laws f) where
 
     solves : Congruent f n g (take (n + 1) xs') (take (n + 1) ys')
     solves j h =
-        let pB : po (take (n + 1) ys') ≡ (λ i. F.◌⊗◌ (s (f.recip (at a b lead))) (po b i)) = fun_ext (λ i. ap s (each (right i)) ∙ L.prod_of f w _ _ hc (hb i)) in
+        let pB : po (take (n + 1) ys') ≡ (λ i. F.◌⊗◌ (s c) (po b i)) = fun_ext (λ i. ap s (each (right i)) ∙ L.prod_of f w _ _ hc (hb i)) in
         L.same_of f w _ _ (A_in j) (L.coefficient_in f w j _ g B_in hg)
-        (ap s (each (left j)) ∙ L.prod_of f w _ _ hc (ha j) ∙ ap (F.◌⊗◌ (s (f.recip (at a b lead)))) (inside j h)
-        ∙ sym (L.coefficient_of f w j _ g B_in hg ∙ ap (λ x. C.conv F j x (po g)) pB ∙ C.conv_scale_l F j (s (f.recip (at a b lead))) (po b) (po g)))
+        (ap s (each (left j)) ∙ L.prod_of f w _ _ hc (ha j) ∙ ap (F.◌⊗◌ (s c)) (inside j h)
+        ∙ sym (L.coefficient_of f w j _ g B_in hg ∙ ap (λ x. C.conv F j x (po g)) pB ∙ C.conv_scale_l F j (s c) (po b) (po g)))
 
-    pub solved : Solved f g n r xs ys xs' ys' ca cb (side_of lead)
+    pub solved : Solved f g n r xs ys xs' ys' found
     solved = record {
       lead = lead;
       least = record {
@@ -115,9 +138,9 @@ module _ (f : Meaning) (w : Laws f) where
         monic = monic;
         least = low;
       };
-      on = refl;
-      left_counted = counts_of (n + 1) xs' ca k.left_counted;
-      right_counted = counts_of (n + 1) ys' cb k.right_counted;
+      on = ap side_number k.leading ∙ numbered lead;
+      left_counted = k.left_counted;
+      right_counted = k.right_counted;
       left_kept = drop_same (n + 1) xs' xs lx k.left.rest;
       right_kept = drop_same (n + 1) ys' ys ly k.right.rest;
     }
@@ -173,19 +196,23 @@ module _ (f : Meaning) (w : Laws f) where
           up (left i) h = L.nil_of f w _ (held.two.symbols.left_in i) (held.basis.right.other i (lt_out r l m e b.top i h))
           up (right j) h = L.nil_of f w _ (held.two.symbols.right_in j) (held.basis.right.above j h)
 
-      module _ (xs ys xs' ys' : List ℕ) (ca cb : ℕ) (lx : length xs' ≡ length xs) (ly : length ys' ≡ length ys) where
-        pub solved_left : a.top + m ≤ b.top + l → Written f (f.recip (get_or a.left a.top 0)) (n + 1) a.left a.right xs ys xs' ys' ca cb → Solved f g n r xs ys xs' ys' ca cb 0
-        solved_left le k =
-            let h = held.one in
-            solved n r g a.left a.right hg h.symbols.left_in h.symbols.right_in (λ i d. h.left_short i (omega (arith, h.sized))) (λ i d. h.right_short i (omega (arith, h.sized))) held.basis.inl (left a.top) left_leads (left_lowest n g hg _ _ _ _ _ _ held.basis le) xs ys xs' ys' ca cb lx ly k
+      module _ (xs ys xs' ys' : List ℕ) (found : ℕ × ℕ × Side) (lx : length xs' ≡ length xs) (ly : length ys' ≡ length ys) where
+        pub solved_on : (side : Side) → OnSide.Lower l m a.top b.top side → Written f side (n + 1) (on side a b) xs ys xs' ys' found → Solved f g n r xs ys xs' ys' found
+        solved_on side.Left le k =
+            solved n r g a hg held.one held.basis.inl (left a.top) refl left_leads (left_lowest n g hg _ _ _ _ _ _ held.basis le) xs ys xs' ys' found lx ly k
+        solved_on side.Right lt k =
+            solved n r g b hg held.two held.basis.inr (right b.top) refl right_leads (right_lowest n g hg _ _ _ _ _ _ held.basis lt) xs ys xs' ys' found lx ly k
 
-        pub solved_right : b.top + l < a.top + m → Written f (f.recip (get_or b.right b.top 0)) (n + 1) b.left b.right xs ys xs' ys' ca cb → Solved f g n r xs ys xs' ys' ca cb 1
-        solved_right lt k =
-            let h = held.two in
-            solved n r g b.left b.right hg h.symbols.left_in h.symbols.right_in (λ i d. h.left_short i (omega (arith, h.sized))) (λ i d. h.right_short i (omega (arith, h.sized))) held.basis.inr (right b.top) right_leads (right_lowest n g hg _ _ _ _ _ _ held.basis lt) xs ys xs' ys' ca cb lx ly k
+-- the pair on this side leads there
+pub record LeadsOn (q n : ℕ) (side : Side) (p : Pair) : Type 0 where
+  pub top : p.top ≤ n
+  pub some : get_or (on side p.left p.right) p.top 0 ≢ 0
+  pub symbols : InField q p
 
-pub top_left : (f : Meaning) (w : Laws f) (g : List ℕ) (l m n : ℕ) (a b : Pair) → Held f w g l m n a b → get_or a.left a.top 0 ≢ 0
-top_left f w g l m n a b h z = h.basis.left.top (L.nil_to f w _ z)
-
-pub top_right : (f : Meaning) (w : Laws f) (g : List ℕ) (l m n : ℕ) (a b : Pair) → Held f w g l m n a b → get_or b.right b.top 0 ≢ 0
-top_right f w g l m n a b h z = h.basis.right.top (L.nil_to f w _ z)
+pub leads_on : (f : Meaning) (w : Laws f) (g : List ℕ) (l m n : ℕ) (a b : Pair) → Held f w g l m n a b → (side : Side) → LeadsOn f.q n side (on side a b)
+leads_on f w g l m n a b h side.Left =
+    let e : a.top + b.top ≡ n = h.basis.size in
+    record { top = omega arith; some = λ z. h.basis.left.top (L.nil_to f w _ z); symbols = h.one.symbols }
+leads_on f w g l m n a b h side.Right =
+    let e : a.top + b.top ≡ n = h.basis.size in
+    record { top = omega arith; some = λ z. h.basis.right.top (L.nil_to f w _ z); symbols = h.two.symbols }

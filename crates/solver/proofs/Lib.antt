@@ -1,4 +1,4 @@
-pub mod RowTurns
+pub mod RowProducts
 pub mod RowPolys
 pub mod PairPolys
 pub mod Turns

@@ -1,5 +1,5 @@
 -- One turn of the solver keeps what it holds, and the discrepancy of the pair that was multiplied by x is known.
-use Rattle.std.proofs.Common.{◌≡◌, ℕ, suc, ◌+◌, ◌<◌, ◌≤◌, ◌≢◌, List, sym, refl, ap, ◌∙◌, subst, ap₂, add-one}
+use Rattle.std.proofs.Common.{◌≡◌, ℕ, suc, ◌+◌, ◌<◌, ◌≤◌, ◌≢◌, ◌⊎◌, inl, inr, List, length, sym, refl, ap, ◌∙◌, subst, ap₂, add-one, arith}
 use Prim.Native.Nat.{Fin}
 use native.Mathlib.Decide.{ℕ_discrete}
 use Rattle.algebra.specs.Field.{Field}
@@ -8,8 +8,14 @@ use Rattle.field.specs.Meaning.{Meaning, Laws}
 use Rattle.field.specs.Symbols.{Within}
 use Rattle.field.specs.Lifted.{lift, poly, sym_of}
 use Rattle.field.proofs.Lifting as L
-use Rattle.solver.specs.PairSteps.{Short, Held, PairRaised, PairMixed, Stepped, discrepancy_of}
+use Rattle.solver.specs.PairSteps.{InField, Short, Held, PairRaised, PairMixed, Stepped, discrepancy_of}
+use Rattle.solver.specs.BasisSteps.{IsKnown, Reached}
+use Rattle.solver.specs.Sides.{on}
+use Rattle.solver.specs.declared.Side.{Side}
+use Rattle.solver.specs.declared.Side.TheVariants.{Left, Right}
 use Rattle.solver.specs.declared.pair.Pair.{Pair}
+use Rattle.solver.specs.declared.steps.Basis.{Basis as Two}
+use Rattle.solver.specs.declared.steps.Known.{Known}
 use Rattle.solver.proofs.PairPolys as P
 
 module _ (f : Meaning) (w : Laws f) where
@@ -127,3 +133,41 @@ module _ (f : Meaning) (w : Laws f) where
 
     pub known_low : Short f.q k low → x ≡ discrepancy_of f k g low → x ≢ 0 → x ≡ discrepancy_of f (k + 1) g low'
     known_low h e z = e ∙ sym (P.discrepancy_raised f w g hg k low low' h (st.mends z).0) ∙ ap (λ n. discrepancy_of f n g low') (sym (add-one k))
+
+-- what a step asks of a pair
+pub record Ready (f : Meaning) (g : List ℕ) (k : ℕ) (p : Pair) : Type 0 where
+  pub size : p.size ≤ 512
+  pub top : p.top ≤ 512
+  pub below : discrepancy_of f k g p < f.q
+  pub symbols : InField f.q p
+
+pub ready : (f : Meaning) (w : Laws f) (g : List ℕ) (l m k : ℕ) (a b : Pair) → Within f.q g → k < length g → length g ≤ 512 → Held f w g l m k a b → (side : Side) → Ready f g k (on side a b)
+ready f w g l m k a b hg lt few h Left =
+    let sum : a.top + b.top ≡ k = h.basis.size in
+    record { size = omega (arith, h.one.sized); top = omega arith; below = P.discrepancy_in f w g hg k a h.one; symbols = h.one.symbols }
+ready f w g l m k a b hg lt few h Right =
+    let sum : a.top + b.top ≡ k = h.basis.size in
+    record { size = omega (arith, h.two.sized); top = omega arith; below = P.discrepancy_in f w g hg k b h.two; symbols = h.two.symbols }
+
+-- One turn in full: the lower pair is that on this side, both discrepancies are x and y, and one of them is known next.
+module _ (f : Meaning) (w : Laws f) (l m k : ℕ) (g : List ℕ) (b : Two) (a' b' : Pair) (x y : ℕ) (next : Known) (hg : Within f.q g) (h : Reached f g l m k b)
+    (ex : x ≡ discrepancy_of f k g b.left) (ey : y ≡ discrepancy_of f k g b.right) where
+  pub reached_left : b.left.top + m ≤ b.right.top + l → Stepped f x y b.left b.right a' b' → ((x ≡ 0) × (next ≡ Known.Right y)) ⊎ ((x ≢ 0) × (next ≡ Known.Left x)) →
+      Reached f g l m (k + 1) record { left = a'; right = b'; known = next }
+  reached_left low st e = record {
+    held = λ v. left_low f v l m k g b.left b.right a' b' hg (h.held v) x y ex ey low st;
+    known = elim e [
+      | inl d ↦ subst (IsKnown f (k + 1) g a' b') (sym d.1) (known_high f w k g b.left b.right a' b' x y hg st (h.held w).two ey d.0)
+      | inr d ↦ subst (IsKnown f (k + 1) g a' b') (sym d.1) (known_low f w k g b.left b.right a' b' x y hg st (h.held w).one ex d.0)
+    ];
+  }
+
+  pub reached_right : b.right.top + l < b.left.top + m → Stepped f y x b.right b.left b' a' → ((y ≡ 0) × (next ≡ Known.Left x)) ⊎ ((y ≢ 0) × (next ≡ Known.Right y)) →
+      Reached f g l m (k + 1) record { left = a'; right = b'; known = next }
+  reached_right low st e = record {
+    held = λ v. right_low f v l m k g b.left b.right a' b' hg (h.held v) y x ey ex low st;
+    known = elim e [
+      | inl d ↦ subst (IsKnown f (k + 1) g a' b') (sym d.1) (known_high f w k g b.right b.left b' a' y x hg st (h.held w).one ex d.0)
+      | inr d ↦ subst (IsKnown f (k + 1) g a' b') (sym d.1) (known_low f w k g b.right b.left b' a' y x hg st (h.held w).two ey d.0)
+    ];
+  }

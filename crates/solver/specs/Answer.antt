@@ -5,6 +5,8 @@ use Rattle.field.specs.Symbols.{all_below}
 use Rattle.code.specs.Refusals.{number}
 use Rattle.code.specs.declared.Refusal.{Refusal}
 use Rattle.solver.specs.Pairs.{Term, left, right, Least}
+use Rattle.solver.specs.declared.Side.{Side}
+use Rattle.solver.specs.declared.Side.TheVariants.{Left, Right}
 
 -- c is the count of the row p: its degree + 1, or 0 where p is 0
 pub record Counts (p : List ℕ) (c : ℕ) : Type 0 where
@@ -15,6 +17,11 @@ pub record Counts (p : List ℕ) (c : ℕ) : Type 0 where
 abbrev pub side_of : Term → ℕ
 side_of (left i) = 0
 side_of (right j) = 1
+
+-- the number of a side
+abbrev pub side_number : Side → ℕ
+side_number Left = 0
+side_number Right = 1
 
 -- the number of the refusal, or none: the first that holds, for q symbols, the coefficients g, their count n, the order r, and x and y places in the buffers
 abbrev pub refusal_of : ℕ → List ℕ → ℕ → ℤ → ℕ → ℕ → Option ℕ
@@ -27,16 +34,16 @@ refusal_of q g n r x y =
     None))))
 
 -- the least pair stands in the first n + 1 places of the buffers, which were xs and ys and are xs' and ys'; all else is as it was
-pub record Solved (f : Meaning) (g : List ℕ) (n : ℕ) (r : ℤ) (xs ys xs' ys' : List ℕ) (left-count right-count side : ℕ) : Type 0 where
+pub record Solved (f : Meaning) (g : List ℕ) (n : ℕ) (r : ℤ) (xs ys xs' ys' : List ℕ) (found : ℕ × ℕ × Side) : Type 0 where
   pub lead : Term
   pub least : Least f n r g (take (n + 1) xs') (take (n + 1) ys') lead
-  pub on : side ≡ side_of lead
-  pub left_counted : Counts (take (n + 1) xs') left-count
-  pub right_counted : Counts (take (n + 1) ys') right-count
+  pub on : side_number found.2 ≡ side_of lead
+  pub left_counted : Counts (take (n + 1) xs') found.0
+  pub right_counted : Counts (take (n + 1) ys') found.1
   pub left_kept : drop (n + 1) xs' ≡ drop (n + 1) xs
   pub right_kept : drop (n + 1) ys' ≡ drop (n + 1) ys
 
--- solve answers three numbers where nothing is refused; otherwise it answers the refusal, and the buffers are as they were
-abbrev pub Answered : Meaning → List ℕ → ℕ → ℤ → List ℕ → List ℕ → List ℕ → List ℕ → Result (ℕ × ℕ × ℕ) Refusal → Type 0
-Answered f g n r xs ys xs' ys' (Ok a) = (refusal_of f.q g n r (length xs) (length ys) ≡ None) × Solved f g n r xs ys xs' ys' a.0 a.1 a.2
+-- solve answers what it found where nothing is refused; otherwise it answers the refusal, and the buffers are as they were
+abbrev pub Answered : Meaning → List ℕ → ℕ → ℤ → List ℕ → List ℕ → List ℕ → List ℕ → Result (ℕ × ℕ × Side) Refusal → Type 0
+Answered f g n r xs ys xs' ys' (Ok found) = (refusal_of f.q g n r (length xs) (length ys) ≡ None) × Solved f g n r xs ys xs' ys' found
 Answered f g n r xs ys xs' ys' (Err e) = (refusal_of f.q g n r (length xs) (length ys) ≡ Some (number e)) × (xs' ≡ xs) × (ys' ≡ ys)

@@ -1,6 +1,7 @@
 pub mod Pairs
 pub mod Answer
+pub mod Sides
 pub mod RowSteps
 pub mod PairSteps
-pub mod KnownSide
+pub mod BasisSteps
 pub mod WriteSteps

@@ -6,6 +6,8 @@ use Rattle.field.specs.Symbols.{Within}
 use Rattle.field.specs.Sums.{coefficient}
 use Rattle.field.specs.Lifted.{lift, poly}
 use Rattle.solver.specs.RowSteps.{Raised, Mixed}
+use Rattle.solver.specs.Sides.{on}
+use Rattle.solver.specs.declared.Side.{Side}
 use Rattle.solver.specs.declared.pair.Pair.{Pair}
 
 -- both halves are symbols
@@ -45,13 +47,13 @@ pub record Stepped (f : Meaning) (x y : ℕ) (low high low' high' : Pair) : Type
   pub fits : x ≡ 0 → (low' ≡ low) × PairRaised high high'
   pub mends : x ≢ 0 → PairRaised low low' × PairMixed f (f.opp (f.prod y (f.recip x))) low high high'
 
--- the first pairs: one half is 1, and the other is 0
-pub record Starts (p : Pair) (one none : List ℕ) : Type 0 where
+-- the first pairs: the half on this side is 1, and the other is 0
+pub record Starts (side : Side) (p : Pair) : Type 0 where
   pub top : p.top ≡ 0
   pub size : p.size ≡ 1
-  pub first : slice_index_or one 0 0 ≡ 1
-  pub later : (i : ℕ) → 0 < i → slice_index one i ≡ 0
-  pub nil : (i : ℕ) → slice_index none i ≡ 0
+  pub first : slice_index_or (on side p.left p.right) 0 0 ≡ 1
+  pub later : (i : ℕ) → 0 < i → slice_index (on side p.left p.right) i ≡ 0
+  pub nil : (i : ℕ) → slice_index (on side p.right p.left) i ≡ 0
 
 -- after k steps, in the order l - m: s leads on the left and t on the right, both solve the congruence modulo x^k, and their exponents add up to k
 pub record Held (f : Meaning) (w : Laws f) (g : List ℕ) (l m k : ℕ) (s t : Pair) : Type 0 where

@@ -1,5 +1,5 @@
 -- Internal: what the small steps of the solver do to one row.
-use Rattle.std.specs.Prelude.{◌≡◌, ℕ, suc, ◌<◌, ◌≤◌, ◌≢◌, List, slice_index, slice_index_or}
+use Rattle.std.specs.Prelude.{◌≡◌, ℕ, suc, ◌<◌, ◌≤◌, List, slice_index, slice_index_or}
 use Rattle.field.specs.Meaning.{Meaning}
 
 -- ys is the first size places of xs times x
@@ -17,9 +17,3 @@ pub record Mixed (f : Meaning) (c size : ℕ) (from to ys : List ℕ) : Type 0 w
 pub record Scaled (f : Meaning) (c size : ℕ) (from to ys : List ℕ) : Type 0 where
   pub done : (i : ℕ) → i < size → slice_index ys i ≡ f.prod c (slice_index from i)
   pub rest : (i : ℕ) → size ≤ i → slice_index ys i ≡ slice_index to i
-
--- c is one more than the degree of what stands in the first size places, or 0
-pub record Counted (size : ℕ) (xs : List ℕ) (c : ℕ) : Type 0 where
-  pub within : c ≤ size
-  pub rest : (i : ℕ) → c ≤ i → i < size → slice_index xs i ≡ 0
-  pub top : (i : ℕ) → suc i ≡ c → slice_index xs i ≢ 0

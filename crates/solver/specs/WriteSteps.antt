@@ -1,17 +1,23 @@
 -- Internal: what is written to the buffers once the steps are done, and the refusal as a number.
-use Rattle.std.specs.Prelude.{ℕ, List, Some, None, Option}
+use Rattle.std.specs.Prelude.{◌≡◌, ℕ, List, take, Ok, Err, Some, None, Option, Result, slice_index}
 use Rattle.code.specs.Refusals.{number}
 use Rattle.code.specs.declared.Refusal.{Refusal}
 use Rattle.field.specs.Meaning.{Meaning}
-use Rattle.solver.specs.RowSteps.{Scaled, Counted}
+use Rattle.solver.specs.Answer.{Counts}
+use Rattle.solver.specs.RowSteps.{Scaled}
+use Rattle.solver.specs.Sides.{on}
+use Rattle.solver.specs.declared.Side.{Side}
+use Rattle.solver.specs.declared.pair.Pair.{Pair}
 
--- a pair (a, b) times c, written over the first size places of two buffers, and its counts
-pub record Written (f : Meaning) (c size : ℕ) (a b xs ys xs' ys' : List ℕ) (left-count right-count : ℕ) : Type 0 where
-  pub left : Scaled f c size a xs xs'
-  pub right : Scaled f c size b ys ys'
-  pub left_counted : Counted size xs' left-count
-  pub right_counted : Counted size ys' right-count
+-- a pair divided by its leading coefficient, which is on this side, over the first size places of two buffers
+pub record Written (f : Meaning) (side : Side) (size : ℕ) (p : Pair) (xs ys xs' ys' : List ℕ) (found : ℕ × ℕ × Side) : Type 0 where
+  pub left : Scaled f (f.recip (slice_index (on side p.left p.right) p.top)) size p.left xs xs'
+  pub right : Scaled f (f.recip (slice_index (on side p.left p.right) p.top)) size p.right ys ys'
+  pub left_counted : Counts (take size xs') found.0
+  pub right_counted : Counts (take size ys') found.1
+  pub leading : found.2 ≡ side
 
-abbrev pub numbered : Option Refusal → Option ℕ
-numbered None = None
-numbered (Some e) = Some (number e)
+-- the number of the refusal, or none
+abbrev pub reason : Result Unit Refusal → Option ℕ
+reason (Ok x) = None
+reason (Err e) = Some (number e)

@@ -1,5 +1,8 @@
 // The order r on terms, told without signs.
-ghost use Rattle.std.specs.Prelude.{◌≡◌, ◌+◌, ◌<◌, ◌≤◌, false, T, pos, negsuc, ◌+ℤ◌, ◌≤ℤ◌};
+ghost use Rattle.std.specs.Prelude.{◌≡◌, ◌<◌, ◌≤◌, pos, negsuc, ◌+ℤ◌, ◌≤ℤ◌};
+ghost use Rattle.solver.specs.Sides.{Lower};
+
+use crate::Side;
 
 // The order r = plus - minus.
 #[derive(Clone, Copy)]
@@ -29,12 +32,15 @@ impl Order {
         }
     }
 
-    // Whether the term x^i on the left is lower than x^j on the right.
-    pub(crate) fn left_is_lower(self, i: usize, j: usize) -> bool
+    // The side of the lower of the terms x^i on the left and x^j on the right.
+    pub(crate) fn lower(self, i: usize, j: usize) -> Side
         requires { (i ≤ 512) × (j ≤ 512) }
-        ensures yes { T result → i + self.minus ≤ j + self.plus }
-        ensures no { result ≡ false → j + self.plus < i + self.minus }
+        ensures { Lower self.plus self.minus i j result }
     {
-        i + self.minus <= j + self.plus
+        if i + self.minus <= j + self.plus {
+            Side::Left
+        } else {
+            Side::Right
+        }
     }
 }

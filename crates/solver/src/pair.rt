@@ -1,16 +1,17 @@
 // A pair of polynomials in local arrays, and what one step does to it.
-ghost use Rattle.std.specs.Prelude.{◌≡◌, ◌<◌, ◌≤◌, ◌≢◌, length};
-ghost use Rattle.field.specs.Symbols.{Within};
-ghost use Rattle.solver.specs.PairSteps.{InField, Short, PairRaised, PairMixed, Starts, discrepancy_of};
+ghost use Rattle.std.specs.Prelude.{◌≡◌, ◌<◌, ◌≤◌, ◌≢◌, length, slice_index};
+ghost use Rattle.solver.specs.PairSteps.{InField, PairRaised, PairMixed, Starts};
+ghost use Rattle.solver.specs.Sides.{on};
 ghost use Rattle.solver.specs.WriteSteps.{Written};
 
-use crate::rows;
+use crate::{LeastPair, Side, rows};
 use field::Field;
 
 // The coefficients that a polynomial of the solver can have: one more than the most terms of g.
 pub(crate) const ROOM: usize = 513;
 
-// A pair of polynomials, the exponent of its leading term, and how many places of its halves are in use.
+// A pair of polynomials, the exponent of its leading term, and how many places of its halves are in use. The halves are
+// arrays with a size beside them, since a call takes no memory from the heap.
 #[derive(Drop)]
 pub(crate) struct Pair {
     pub(crate) top: usize,
@@ -20,32 +21,21 @@ pub(crate) struct Pair {
 }
 
 impl Pair {
-    // (1, 0).
-    pub(crate) fn left_one() -> Pair
-        ensures { Starts result result.left result.right }
+    // The pair whose half on this side is 1, and whose other half is 0.
+    pub(crate) fn one(side: Side) -> Pair
+        ensures { Starts side result }
     {
-        let mut one = [0u32; ROOM];
-        one[0] = 1;
-        Pair {
+        let mut pair = Pair {
             top: 0,
             size: 1,
-            left: one,
-            right: [0u32; ROOM],
+            left: [0; ROOM],
+            right: [0; ROOM],
+        };
+        match side {
+            Side::Left => pair.left[0] = 1,
+            Side::Right => pair.right[0] = 1,
         }
-    }
-
-    // (0, 1).
-    pub(crate) fn right_one() -> Pair
-        ensures { Starts result result.right result.left }
-    {
-        let mut one = [0u32; ROOM];
-        one[0] = 1;
-        Pair {
-            top: 0,
-            size: 1,
-            left: [0u32; ROOM],
-            right: one,
-        }
+        pair
     }
 
     // Multiplies the pair by x.
@@ -67,41 +57,45 @@ impl Pair {
         requires changed { InField (F.Field.means field.now).q self.old }
         ensures { PairMixed (F.Field.means field.now) c low.now self.old self.new }
     {
-        rows::add_multiple(field, c, &low.left, &mut self.left, low.size);
-        rows::add_multiple(field, c, &low.right, &mut self.right, low.size);
-        if self.size < low.size {
-            self.size = low.size;
+        field.add_multiple(c, &low.left[..low.size], &mut self.left);
+        field.add_multiple(c, &low.right[..low.size], &mut self.right);
+        self.size = self.size.max(low.size);
+    }
+
+    // The coefficient of the leading term, which is on this side.
+    pub(crate) fn leading(&self, side: Side) -> u32
+        requires { self.now.top < 513 }
+        ensures { result ≡ slice_index (on side self.now.left self.now.right) self.now.top }
+    {
+        match side {
+            Side::Left => self.left[self.top],
+            Side::Right => self.right[self.top],
         }
     }
 
-    // The coefficient of x^k in a - b·g.
-    pub(crate) fn discrepancy<F: Field>(&self, field: &F, g: &[u32], k: usize) -> u32
-        requires room { (k < 513) × (k < length g.now) }
-        requires row { Within (F.Field.means field.now).q g.now }
-        requires pair { Short (F.Field.means field.now).q k self.now }
-        ensures { result ≡ discrepancy_of (F.Field.means field.now) k g.now self.now }
-    {
-        let product = rows::product_at(field, &self.right, self.size, g, k);
-        field.sum(self.left[k], field.opposite(product))
-    }
-
-    // Writes this pair, divided by `leading`, over the first `size` places of the buffers, and counts its halves.
+    // Writes this pair, which leads on this side, divided by its leading coefficient, over the first `size` places of the buffers.
     pub(crate) fn write_divided<F: Field>(
         &self,
         field: &F,
-        leading: u32,
+        side: Side,
         size: usize,
         left: &mut [u32],
         right: &mut [u32],
-    ) -> (u32, u32)
+    ) -> LeastPair
         requires room { (size ≤ 513) × (size ≤ length left.old) × (size ≤ length right.old) }
-        requires leading { (leading < (F.Field.means field.now).q) × (leading ≢ 0) }
+        requires top { self.now.top < 513 }
+        requires leading { slice_index (on side self.now.left self.now.right) self.now.top ≢ 0 }
         requires pair { InField (F.Field.means field.now).q self.now }
-        ensures { Written (F.Field.means field.now) ((F.Field.means field.now).recip leading) size self.now.left self.now.right left.old right.old left.new right.new result.0 result.1 }
+        ensures { Written (F.Field.means field.now) side size self.now left.old right.old left.new right.new result }
     {
+        let leading = self.leading(side);
         let inverse = field.reciprocal(leading).unwrap();
-        rows::scale_into(field, inverse, &self.left, left, size);
-        rows::scale_into(field, inverse, &self.right, right, size);
-        (rows::count(left, size), rows::count(right, size))
+        rows::scale_into(field, inverse, &self.left[..size], left);
+        rows::scale_into(field, inverse, &self.right[..size], right);
+        (
+            rows::count(&left[..size]),
+            rows::count(&right[..size]),
+            side,
+        )
     }
 }

@@ -1,26 +1,40 @@
 // The steps of the solver: two pairs, one that leads on the left and one that leads on the right, from modulo x^0 to modulo x^n.
-ghost use Rattle.std.specs.Prelude.{◌≡◌, ◌+◌, ◌<◌, ◌≤◌, length};
-ghost use Rattle.field.specs.Meaning.{Laws};
+ghost use Rattle.std.specs.Prelude.{◌≡◌, ℤ, pos, ◌+◌, ◌+ℤ◌, ◌<◌, ◌≤◌, length};
 ghost use Rattle.field.specs.Symbols.{Within};
-ghost use Rattle.solver.specs.PairSteps.{InField, Short, Held, Stepped, Starts, discrepancy_of};
-ghost use Rattle.solver.specs.KnownSide.{on};
+ghost use Rattle.solver.specs.Answer.{Solved};
+ghost use Rattle.solver.specs.PairSteps.{InField, Short, Starts, Stepped, discrepancy_of};
+ghost use Rattle.solver.specs.Sides.{on};
+ghost use Rattle.solver.specs.BasisSteps.{IsKnown, Reached};
 
 use crate::order::Order;
 use crate::pair::Pair;
+use crate::{LeastPair, Side, rows};
 use field::Field;
 
-// Where a pair has its leading term.
+// A discrepancy of one of the two pairs.
 #[derive(Clone, Copy)]
-pub(crate) enum Side {
-    Left,
-    Right,
+pub(crate) enum Known {
+    Left(u32),
+    Right(u32),
 }
 
-// The discrepancy of one of the two pairs, which needs no sum: multiplying a pair by x moves its discrepancy along.
-#[derive(Clone, Copy)]
-pub(crate) struct Known {
-    side: Side,
-    value: u32,
+// A pair that leads on the left, one that leads on the right, and the discrepancy of one of them, which needs no sum:
+// multiplying a pair by x moves its discrepancy along.
+#[derive(Drop)]
+pub(crate) struct Basis {
+    pub(crate) left: Pair,
+    pub(crate) right: Pair,
+    pub(crate) known: Known,
+}
+
+// A congruence a ≡ b·g modulo x^n, where g has n symbols, and the order in which its least pair is sought.
+#[derive(Drop)]
+pub(crate) struct Congruence<'a, F: Field> {
+    pub(crate) field: &'a F,
+    pub(crate) g: &'a [u32],
+    pub(crate) order: Order,
+    ghost few: { length g.now ≤ 512 },
+    ghost row: { Within (F.Field.means field.now).q g.now },
 }
 
 // One step, from modulo x^k to modulo x^(k + 1): x and y are the discrepancies of the lower and the higher pair.
@@ -42,86 +56,106 @@ fn step<F: Field>(field: &F, low: &mut Pair, high: &mut Pair, x: u32, y: u32)
     }
 }
 
-// Both discrepancies at k, of which one is known.
-fn discrepancies<F: Field>(
-    field: &F,
-    g: &[u32],
-    k: usize,
-    left: &Pair,
-    right: &Pair,
-    known: Known,
-) -> (u32, u32)
-    requires room { (k < 512) × (k < length g.now) }
-    requires row { Within (F.Field.means field.now).q g.now }
-    requires one { Short (F.Field.means field.now).q k left.now }
-    requires two { Short (F.Field.means field.now).q k right.now }
-    requires known { known.value ≡ discrepancy_of (F.Field.means field.now) k g.now (on known.side left.now right.now) }
-    ensures left { result.0 ≡ discrepancy_of (F.Field.means field.now) k g.now left.now }
-    ensures right { result.1 ≡ discrepancy_of (F.Field.means field.now) k g.now right.now }
-{
-    match known.side {
-        Side::Left => (known.value, right.discrepancy(field, g, k)),
-        Side::Right => (left.discrepancy(field, g, k), known.value),
+impl Basis {
+    // The pairs (1, 0) and (0, 1), of which the first has discrepancy 1.
+    fn first() -> Basis
+        ensures left { Starts Side.Left result.left }
+        ensures right { Starts Side.Right result.right }
+        ensures known { result.known ≡ Known.Left 1 }
+    {
+        Basis {
+            left: Pair::one(Side::Left),
+            right: Pair::one(Side::Right),
+            known: Known::Left(1),
+        }
+    }
+
+    // The pair that leads on this side.
+    fn pair(&self, side: Side) -> &Pair
+        ensures { result.now ≡ on side self.now.left self.now.right }
+    {
+        match side {
+            Side::Left => &self.left,
+            Side::Right => &self.right,
+        }
+    }
+
+    // Both discrepancies at k.
+    fn discrepancies<F: Field>(&self, congruence: &Congruence<F>, k: usize) -> (u32, u32)
+        requires below { k < length congruence.now.g.now }
+        requires one { Short (F.Field.means congruence.now.field.now).q k self.now.left }
+        requires two { Short (F.Field.means congruence.now.field.now).q k self.now.right }
+        requires known { IsKnown (F.Field.means congruence.now.field.now) k congruence.now.g.now self.now.left self.now.right self.now.known }
+        ensures left { result.0 ≡ discrepancy_of (F.Field.means congruence.now.field.now) k congruence.now.g.now self.now.left }
+        ensures right { result.1 ≡ discrepancy_of (F.Field.means congruence.now.field.now) k congruence.now.g.now self.now.right }
+    {
+        match self.known {
+            Known::Left(x) => (x, congruence.discrepancy(&self.right, k)),
+            Known::Right(y) => (congruence.discrepancy(&self.left, k), y),
+        }
+    }
+
+    // One turn: both discrepancies, one step, and the discrepancy that is known next.
+    fn turn<F: Field>(&mut self, congruence: &Congruence<F>, k: usize)
+        requires below { k < length congruence.now.g.now }
+        requires reached { Reached (F.Field.means congruence.now.field.now) congruence.now.g.now congruence.now.order.plus congruence.now.order.minus k self.old }
+        ensures { Reached (F.Field.means congruence.now.field.now) congruence.now.g.now congruence.now.order.plus congruence.now.order.minus (k + 1) self.new }
+    {
+        let (x, y) = self.discrepancies(congruence, k);
+        let field = congruence.field;
+        match congruence.order.lower(self.left.top, self.right.top) {
+            Side::Left => {
+                step(field, &mut self.left, &mut self.right, x, y);
+                self.known = if x == 0 {
+                    Known::Right(y)
+                } else {
+                    Known::Left(x)
+                };
+            }
+            Side::Right => {
+                step(field, &mut self.right, &mut self.left, y, x);
+                self.known = if y == 0 {
+                    Known::Left(x)
+                } else {
+                    Known::Right(y)
+                };
+            }
+        }
     }
 }
 
-// One turn: both discrepancies, one step, and the discrepancy that is known next.
-fn turn<F: Field>(
-    field: &F,
-    g: &[u32],
-    order: Order,
-    k: usize,
-    left: &mut Pair,
-    right: &mut Pair,
-    known: Known,
-) -> Known
-    requires room { (k < 512) × (k < length g.now) }
-    requires row { Within (F.Field.means field.now).q g.now }
-    requires held { (w : Laws (F.Field.means field.now)) → Held (F.Field.means field.now) w g.now order.plus order.minus k left.old right.old }
-    requires known { known.value ≡ discrepancy_of (F.Field.means field.now) k g.now (on known.side left.old right.old) }
-    ensures held { (w : Laws (F.Field.means field.now)) → Held (F.Field.means field.now) w g.now order.plus order.minus (k + 1) left.new right.new }
-    ensures known { result.value ≡ discrepancy_of (F.Field.means field.now) (k + 1) g.now (on result.side left.new right.new) }
-{
-    let (of_left, of_right) = discrepancies(field, g, k, left, right, known);
-    let left_known = Known {
-        side: Side::Left,
-        value: of_left,
-    };
-    let right_known = Known {
-        side: Side::Right,
-        value: of_right,
-    };
-    if order.left_is_lower(left.top, right.top) {
-        step(field, left, right, of_left, of_right);
-        if of_left == 0 {
-            right_known
-        } else {
-            left_known
-        }
-    } else {
-        step(field, right, left, of_right, of_left);
-        if of_right == 0 {
-            left_known
-        } else {
-            right_known
-        }
+impl<'a, F: Field> Congruence<'a, F> {
+    // The coefficient of x^k in a - b·g.
+    fn discrepancy(&self, pair: &Pair, k: usize) -> u32
+        requires below { k < length self.now.g.now }
+        requires pair { Short (F.Field.means self.now.field.now).q k pair.now }
+        ensures { result ≡ discrepancy_of (F.Field.means self.now.field.now) k self.now.g.now pair.now }
+    {
+        let product = rows::product_at(self.field, &pair.right[..pair.size], self.g, k);
+        self.field.sum(pair.left[k], self.field.opposite(product))
     }
-}
 
-// As many steps as g has symbols, from the pairs (1, 0) and (0, 1).
-pub(crate) fn run<F: Field>(field: &F, g: &[u32], order: Order, left: &mut Pair, right: &mut Pair)
-    requires room { length g.now ≤ 512 }
-    requires row { Within (F.Field.means field.now).q g.now }
-    requires one { Starts left.old left.old.left left.old.right }
-    requires two { Starts right.old right.old.right right.old.left }
-    ensures tops { left.new.top + right.new.top ≡ length g.now }
-    ensures held { (w : Laws (F.Field.means field.now)) → Held (F.Field.means field.now) w g.now order.plus order.minus (length g.now) left.new right.new }
-{
-    let mut known = Known {
-        side: Side::Left,
-        value: 1,
-    };
-    for k in 0..g.len() {
-        known = turn(field, g, order, k, left, right, known);
+    // The pairs after as many steps as g has symbols.
+    fn basis(&self) -> Basis
+        ensures { Reached (F.Field.means self.now.field.now) self.now.g.now self.now.order.plus self.now.order.minus (length self.now.g.now) result }
+    {
+        let mut basis = Basis::first();
+        for k in 0..self.g.len() {
+            basis.turn(self, k);
+        }
+        basis
+    }
+
+    // The least pair: the lower of the two after the last step, divided by its leading coefficient.
+    pub(crate) fn least_pair(&self, left: &mut [u32], right: &mut [u32]) -> LeastPair
+        requires room { (length self.now.g.now < length left.old) × (length self.now.g.now < length right.old) }
+        ensures { (r : ℤ) → pos self.now.order.plus ≡ r +ℤ pos self.now.order.minus → Solved (F.Field.means self.now.field.now) self.now.g.now (length self.now.g.now) r left.old right.old left.new right.new result }
+    {
+        let basis = self.basis();
+        let side = self.order.lower(basis.left.top, basis.right.top);
+        let size = self.g.len() + 1;
+        basis
+            .pair(side)
+            .write_divided(self.field, side, size, left, right)
     }
 }

@@ -6,6 +6,7 @@ use f929::F929;
 use field::{Field, Fixed};
 use second::arithmetic::Kind;
 use second::words::Shape;
+use solver::LeastPair;
 
 // The fields.
 const RESIDUES: F929 = F929 {};
@@ -115,7 +116,7 @@ pub fn solve(
     r: i32,
     left: &mut [u32],
     right: &mut [u32],
-) -> Result<(u32, u32, u32), u32> {
+) -> Result<LeastPair, u32> {
     numbered(match kind {
         Kind::Residues => solver::solve(&RESIDUES, g, n, r, left, right),
         Kind::Bytes => solver::solve(&BYTES, g, n, r, left, right),

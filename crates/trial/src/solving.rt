@@ -7,6 +7,7 @@ use second::arithmetic::{Arithmetic, Kind};
 use second::pairs::{Pair, Term, least};
 use second::places::{at, put};
 use second::rules::solve_row;
+use solver::{LeastPair, Side};
 use std::alloc::{AllocError, Global};
 
 // What a call of the solver is given, but for the field: the coefficients, their number, the order, and the two buffers.
@@ -22,15 +23,15 @@ struct Request {
 // The answer, and what the buffers then hold.
 #[derive(Drop)]
 struct Outcome {
-    answer: Result<(u32, u32, u32), u32>,
+    answer: Result<LeastPair, u32>,
     left: Vec<u32>,
     right: Vec<u32>,
 }
 
 // How many coefficients there are up to the last that is not 0.
-fn count(xs: &[u32]) -> u32 {
-    let mut out = 0u32;
-    let mut seen = 0u32;
+fn count(xs: &[u32]) -> usize {
+    let mut out = 0usize;
+    let mut seen = 0usize;
     for x in xs {
         seen = seen.saturating_add(1);
         if *x != 0 {
@@ -75,10 +76,14 @@ fn write_over(half: &[u32], buffer: &mut [u32]) {
 // Answers by a pair.
 fn tell(pair: &Pair, out: &mut Outcome) {
     let side = match pair.leading {
-        Term::Left(_) => 0,
-        Term::Right(_) => 1,
+        Term::Left(_) => Side::Left,
+        Term::Right(_) => Side::Right,
     };
-    out.answer = Ok((count(&pair.left), count(&pair.right), side));
+    out.answer = Ok(LeastPair {
+        left: count(&pair.left),
+        right: count(&pair.right),
+        leading: side,
+    });
     write_over(&pair.left, &mut out.left);
     write_over(&pair.right, &mut out.right);
 }

@@ -55,8 +55,8 @@ invariant_of-pair g c =
     let b = c.in_ok-a.b in
     let solved = c.in_ok-a.ensures.answer.1 in
     let below : (zs : List ℕ) (n : ℕ) → Within f.q (take n zs) → Within g.row.Q (take n zs) = λ zs n h. subst (λ (q : ℕ). Within q (take n zs)) size h in
-    let evaluator = below xs a (left_in f l sh cn self.erased.now w c.args.modified.now ww c.requires.row c.args.s _ c.requires.number (order_is c.args.s c.requires.few) c.checks-checks.result c.checks-checks.ensures _ _ xs ys a b _ solved) in
-    let locator = below ys b (right_in f l sh cn self.erased.now w c.args.modified.now ww c.requires.row c.args.s _ c.requires.number (order_is c.args.s c.requires.few) c.checks-checks.result c.checks-checks.ensures _ _ xs ys a b _ solved) in
+    let evaluator = below xs a (left_in f l sh cn self.erased.now w c.args.modified.now ww c.requires.row c.args.s _ c.requires.number (order_is c.args.s c.requires.few) c.checks-checks.result c.checks-checks.ensures _ _ xs ys _ solved) in
+    let locator = below ys b (right_in f l sh cn self.erased.now w c.args.modified.now ww c.requires.row c.args.s _ c.requires.number (order_is c.args.s c.requires.few) c.checks-checks.result c.checks-checks.ensures _ _ xs ys _ solved) in
     record { left = evaluator; right = locator }
 
 pub returns-clause-repaired : goal.returns-clause-repaired
@@ -72,7 +72,7 @@ returns-clause-repaired g c =
     let ww : Word f.q sh.n w = subst (λ (q : ℕ). Word q sh.n w) (sym size) (record { long = self.long; symbols = self.symbols }) in
     let cn : sh.n ≤ f.m = omega (arith, turn, self.over.fits) in
     repaired f l sh cn self.erased.now w c.args.modified.now ww c.requires.row c.args.s _ c.requires.number (order_is c.args.s c.requires.few) c.checks-checks.result c.checks-checks.ensures
-    _ _ c.solve.new.left c.solve.new.right c.in_ok-a.a c.in_ok-a.b _ c.in_ok-a.ensures.answer.1 (is_ok c.attempt.result) c.attempt.new.out c.attempt.ensures.attempted
+    _ _ c.solve.new.left c.solve.new.right _ c.in_ok-a.ensures.answer.1 (is_ok c.attempt.result) c.attempt.new.out c.attempt.ensures.attempted
 
 pub returns-in_err-a : goal.returns-in_err-a
 returns-in_err-a g c =
