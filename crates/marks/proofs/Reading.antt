@@ -1,9 +1,9 @@
 -- The marks of a map, one by one.
-use Rattle.std.proofs.Common.{◌≡◌, ℕ, ◌/◌, ◌%◌, ◌^◌, ◌<◌, ◌≤◌, Bool, true, false, eqb, List, length, get_or, set, replicate, vec_items, sym, ap, ◌∙◌, subst, ⊎_elim, arith}
+use Rattle.std.proofs.Common.{◌≡◌, ℕ, ◌/◌, ◌%◌, ◌^◌, ◌<◌, ◌≤◌, Bool, true, false, eqb, List, length, get_or, replicate, vec_items, sym, ap, ◌∙◌, subst, ⊎_elim, arith}
 use native.Mathlib.Nat.{zero-div}
 use lib.ListN.{get_or-replicate, length-replicate}
 use Rattle.std.proofs.lemmas.List.FromFn.{length-map-range_with_len, get_or-map-range_with_len}
-use Rattle.std.proofs.lemmas.List.{get_or_past, same_lists, set-get_or}
+use Rattle.std.proofs.lemmas.List.{get_or_past, same_lists}
 use Rattle.std.proofs.lemmas.Bool.{cases_lt}
 use Rattle.marks.specs.declared.LostMap.{LostMap}
 use Rattle.marks.specs.Marks.{bit_at, marks, Clean}
@@ -39,10 +39,7 @@ pub marked_at : (m : LostMap) (i : ℕ) → get_or (flags m) i false ≡ true �
 unfolding flags
 marked_at m i h = sym (mark_at m.n (vec_items m.bytes) i false (marked_below m i h)) ∙ h
 
--- what is off stays so
-pub set_off : (xs : List Bool) (i : ℕ) → get_or xs i false ≡ false → set xs i false ≡ xs
-set_off xs i e = ap (set xs i) (sym e) ∙ set-get_or xs i false
-
+-- a zero stands at each place of a row of zeros, and past it
 pub zeros_at : (k i : ℕ) → ◌≡◌ {A = ℕ} (get_or {A = ℕ} (replicate k 0) i 0) 0
 zeros_at k i = ⊎_elim (λ lt. get_or-replicate k i 0 0 lt) (λ ge. get_or_past (replicate k 0) i 0 (subst (λ n. n ≤ i) (sym (length-replicate k 0)) ge)) (cases_lt i k)
 

@@ -1,6 +1,6 @@
 use Rattle.std.proofs.Common.{◌<◌, sym, refl, arith}
 use Rattle.marks.specs.Held.{flags}
-use Rattle.marks.proofs.Reading.{clean, marked_at, marked_below, set_off}
+use Rattle.marks.proofs.Reading.{clean, marked_at, marked_below}
 use Rattle.marks.proofs.Turning.{marks_off, rest_off}
 use Rattle.marks.proofs.LostMap.unset.Goals as goal
 
@@ -22,6 +22,3 @@ returns-then-has c =
     let m = c.args.self.now in
     let on = sym c.if-has.ensures in
     record { flags = marks_off m.n m.bytes.items c.args.pos _ (marked_below m _ on) (clean m) c.index_mut.ensures.value (marked_at m _ on); span = refl }
-
-pub returns-else-has : goal.returns-else-has
-returns-else-has c = record { flags = sym (set_off _ _ (sym c.if-has.ensures)); span = refl }

@@ -50,8 +50,8 @@ returns-then-len-clause-value c =
     let full : 512 ≤ length (so_far c.args.old.now c.args.new.now (length c.loop-position.yielded)).places = omega (arith, places, kept r, c.len.ensures, c.if-len.true) in
     sym (ap (λ b. cond b (Ok tt) (Err refusal.Count)) (too_many _ _ _ _ _ _ (met at) c.if-former-now.true full))
 
-pub returns : goal.returns
-returns c =
+pub returns-clause-value : goal.returns-clause-value
+returns-clause-value c =
     let w = c.args.old.now in
     let v = c.args.new.now in
     let road = YieldsList-at c.into_iter-position-iterator.ensures.into_iter_gives (YieldsList-from_enumerate (YieldsList-from_zip (YieldsList-from_slice w cc) (YieldsList-from_slice v cc)) (cc)) in
@@ -59,7 +59,4 @@ returns c =
     let all : told c.loop-position.self ≡ so_far w v (length w) = c.loop-position.invariant ∙ ap (so_far w v) (end.1 ∙ turns w v c.if-new-old.false) in
     let places : length (told c.loop-position.self).places ≡ length (changes w v) = ap (λ t. length t.places) all in
     let short : length (changes w v) ≤ 512 = omega (arith, places, kept c.loop-position.self, c.loop-position.self.few) in
-    record {
-      value = ap (λ b. cond b (Ok tt) (Err refusal.Count)) (few w v c.if-new-old.false c.if-old.false short);
-      after = ap (λ t. record { met = c.args.met; places = t.places; former = t.former }) all;
-    }
+    ap (λ b. cond b (Ok tt) (Err refusal.Count)) (few w v c.if-new-old.false c.if-old.false short)
