@@ -36,7 +36,7 @@ drop_same n xs ys e h =
     (λ k d. get_or-drop n xs k 0 ∙ h (n + k) (omega arith) ∙ sym (get_or-drop n ys k 0))
 
 -- the side that a term stands on, and that its number is the side's
-leading_side : Term → Side
+abbrev pub leading_side : Term → Side
 leading_side (left i) = side.Left
 leading_side (right j) = side.Right
 

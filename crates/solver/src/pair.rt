@@ -92,10 +92,8 @@ impl Pair {
         let inverse = field.reciprocal(leading).unwrap();
         rows::scale_into(field, inverse, &self.left[..size], left);
         rows::scale_into(field, inverse, &self.right[..size], right);
-        (
-            rows::count(&left[..size]),
-            rows::count(&right[..size]),
-            side,
-        )
+        let of_left = rows::count(&left[..size]);
+        let of_right = rows::count(&right[..size]);
+        (of_left, of_right, side)
     }
 }
