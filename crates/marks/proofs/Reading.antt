@@ -6,8 +6,12 @@ use Rattle.std.proofs.lemmas.List.FromFn.{length-map-range_with_len, get_or-map-
 use Rattle.std.proofs.lemmas.List.{get_or_past, same_lists, set-get_or}
 use Rattle.std.proofs.lemmas.Bool.{cases_lt}
 use Rattle.marks.specs.declared.LostMap.{LostMap}
-use Rattle.marks.specs.Marks.{bit_at, marks}
+use Rattle.marks.specs.Marks.{bit_at, marks, Clean}
 use Rattle.marks.specs.Held.{flags, span}
+
+-- what a lost map keeps of its bytes
+pub clean : (m : LostMap) → Clean m.n (vec_items m.bytes)
+clean m = record { bytes = sym m.bytes.ok.0 ∙ m.long; rest = m.tidy }
 
 pub length_marks : (n : ℕ) (bs : List ℕ) → length (marks n bs) ≡ n
 unfolding marks
@@ -25,9 +29,15 @@ pub mark_past : (n : ℕ) (bs : List ℕ) (i : ℕ) → n ≤ i → get_or (mark
 mark_past n bs i h = get_or_past (marks n bs) i false (subst (λ k. k ≤ i) (sym (length_marks n bs)) h)
 
 -- a position that is marked is below n
-pub marked_below : (n : ℕ) (bs : List ℕ) (i : ℕ) → get_or (marks n bs) i false ≡ true → i < n
-marked_below n bs i h =
-    ⊎_elim (λ lt. lt) (λ ge. let e : false ≡ true = sym (mark_past n bs i ge) ∙ h in let z : ◌≡◌ {A = ℕ} 0 1 = cc in absurd (omega arith)) (cases_lt i n)
+pub marked_below : (m : LostMap) (i : ℕ) → get_or (flags m) i false ≡ true → i < span m
+unfolding flags
+marked_below m i h =
+    ⊎_elim (λ lt. lt) (λ ge. let e : false ≡ true = sym (mark_past m.n (vec_items m.bytes) i ge) ∙ h in let z : ◌≡◌ {A = ℕ} 0 1 = cc in absurd (omega arith)) (cases_lt i m.n)
+
+-- and its bit is set
+pub marked_at : (m : LostMap) (i : ℕ) → get_or (flags m) i false ≡ true → bit_at (vec_items m.bytes) i ≡ true
+unfolding flags
+marked_at m i h = sym (mark_at m.n (vec_items m.bytes) i false (marked_below m i h)) ∙ h
 
 -- what is off stays so
 pub set_off : (xs : List Bool) (i : ℕ) → get_or xs i false ≡ false → set xs i false ≡ xs

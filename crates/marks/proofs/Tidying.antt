@@ -1,14 +1,11 @@
 -- No bit past n is set exactly where the last byte is low.
-use Rattle.std.proofs.Common.{◌≡◌, ℕ, zero, suc, ◌+◌, ◌-◌, ◌*◌, ◌/◌, ◌%◌, ◌^◌, ◌<◌, Bool, true, false, not, ◌&&◌, eqb, ltb, ◌≢◌, List, length, get_or, sym, refl, ap, ◌∙◌, subst, ap₂, ⊎_elim, arith, ltb-true, le-ltb, lt-ltb, eq-eqb, ne_eqb}
+use Rattle.std.proofs.Common.{◌≡◌, ℕ, zero, suc, ◌+◌, ◌-◌, ◌*◌, ◌/◌, ◌%◌, ◌^◌, ◌<◌, Bool, true, false, not, ◌&&◌, eqb, ltb, ◌≢◌, List, length, get_or, sym, ap, ◌∙◌, subst, ap₂, ⊎_elim, arith, ltb-true, le-ltb, lt-ltb, eq-eqb, ne_eqb}
 use native.Mathlib.Nat.{div-eq_of_lt, div-eq_of_lt-le}
+use Rattle.std.proofs.Math.Bool.{and-false}
 use Rattle.std.proofs.lemmas.Nat.{pow_pos, pow-add}
 use Rattle.std.proofs.lemmas.List.{get_or_past}
 use Rattle.std.proofs.lemmas.Bool.{cases_lt}
 use Rattle.marks.specs.Marks.{bit_at, clear_from, tidy, Clean}
-
-and_false : (b : Bool) → (b && false) ≡ false
-and_false true = refl
-and_false false = refl
 
 -- x is below p exactly where it is below the double, and its bit at p is not set
 low_bit : (x p : ℕ) → 0 < p → (not (eqb (x / p % 2) 1) && ltb x (p * 2)) ≡ ltb x p
@@ -18,7 +15,7 @@ low_bit x p pos =
     (λ ge.
     ⊎_elim
     (λ lt. ap (λ (d : ℕ). not (eqb (d % 2) 1) && ltb x (p * 2)) (div-eq_of_lt-le {k = 1} p (omega arith) (omega arith)))
-    (λ high. ap (λ (b : Bool). not (eqb (x / p % 2) 1) && b) (le-ltb x (p * 2) high) ∙ and_false _)
+    (λ high. ap (λ (b : Bool). not (eqb (x / p % 2) 1) && b) (le-ltb x (p * 2) high) ∙ and-false _)
     (cases_lt x (p * 2)) ∙ sym (le-ltb x p ge))
     (cases_lt x p)
 

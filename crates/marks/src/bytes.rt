@@ -1,15 +1,14 @@
 // The bytes of a map, apart from how many positions it has.
-ghost use Rattle.std.specs.Prelude.{◌≡◌, ℕ, ◌+◌, ◌/◌, ◌<◌, ◌≤◌, true, ◌&&◌, length, if◌then◌else◌, vec_len, vec_capacity, count_by, nat_le};
+ghost use Rattle.std.specs.Prelude.{◌≡◌, ℕ, ◌+◌, ◌/◌, ◌<◌, ◌≤◌, true, ◌&&◌, length, Ok, Err, is_ok, if◌then◌else◌, count_by, nat_le};
 ghost use Rattle.marks.specs.Marks.{bit_at, marks, tidy, Clean};
 
-use super::LostMap;
+use code::{Code, Refusal};
 
 // How many bytes n positions take.
 pub(crate) fn bytes_for(n: u32) -> usize
-    requires { n ≤ 928 }
     ensures { result ≡ (n + 7) / 8 }
 {
-    (n as usize + 7) / 8
+    n.div_ceil(8) as usize
 }
 
 // Whether the bit of a position is set.
@@ -22,17 +21,10 @@ pub(crate) fn has_bit(map: &[u8], pos: u32) -> bool
 
 // Whether these are the bytes of n positions, with no bit past them.
 pub(crate) fn is_tidy(map: &[u8], n: u32) -> bool
-    requires { n ≤ 928 }
     ensures value { result ≡ tidy n map.now }
     ensures clean { result ≡ true → Clean n map.now }
 {
-    if map.len() != bytes_for(n) {
-        return false;
-    }
-    if n % 8 == 0 {
-        return true;
-    }
-    map[(n / 8) as usize] < 1 << (n % 8)
+    map.len() == bytes_for(n) && (n % 8 == 0 || map[(n / 8) as usize] < 1 << (n % 8))
 }
 
 // Writes for each position of `out` whether it is marked.
@@ -41,22 +33,22 @@ pub(crate) fn write_marks(map: &[u8], out: &mut [bool])
     requires long { (length out.old + 7) / 8 ≤ length map.now }
     ensures { out.new ≡ marks (length out.old) map.now }
 {
-    for pos in 0..out.len() {
-        out[pos] = has_bit(map, pos as u32);
+    for (pos, mark) in out.iter_mut().enumerate() {
+        *mark = has_bit(map, pos as u32);
     }
 }
 
 // The same for bytes from outside: those that are not the bytes of so many positions are refused, and so are too many
 // positions; nothing changes then.
-pub fn spread(map: &[u8], out: &mut [bool]) -> bool
-    ensures value { result ≡ (nat_le (length out.old) 928 && tidy (length out.old) map.now) }
-    ensures after { out.new ≡ (if result then marks (length out.old) map.now else out.old) }
+pub fn spread(map: &[u8], out: &mut [bool]) -> Result<(), Refusal>
+    ensures value { result ≡ (if nat_le (length out.old) 928 && tidy (length out.old) map.now then Ok tt else Err Refusal.Map) }
+    ensures after { out.new ≡ (if is_ok result then marks (length out.old) map.now else out.old) }
 {
-    if out.len() > LostMap::MOST_POSITIONS as usize || !is_tidy(map, out.len() as u32) {
-        return false;
+    if out.len() > Code::MOST_POSITIONS as usize || !is_tidy(map, out.len() as u32) {
+        return Err(Refusal::Map);
     }
     write_marks(map, out);
-    true
+    Ok(())
 }
 
 // How many bits are set, which is how many positions are marked.
@@ -64,19 +56,5 @@ pub(crate) fn count_bits(map: &[u8]) -> u32
     requires { length map.now ≤ 116 }
     ensures { (n : ℕ) → Clean n map.now → result ≡ count_by (λ b. b) (marks n map.now) }
 {
-    let mut sum = 0;
-    for b in map {
-        sum += b.count_ones();
-    }
-    sum
-}
-
-// Writes a map over another.
-pub(crate) fn overwrite(bytes: &mut Vec<u8>, map: &[u8])
-    requires { length map.now ≡ vec_len bytes.old }
-    ensures items { bytes.new.items ≡ map.now }
-    ensures len { vec_len bytes.new ≡ vec_len bytes.old }
-    ensures capacity { vec_capacity bytes.new ≡ vec_capacity bytes.old }
-{
-    bytes.as_mut_slice().copy_from_slice(map);
+    map.iter().map(|b| b.count_ones()).sum()
 }

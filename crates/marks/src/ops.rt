@@ -1,55 +1,48 @@
-ghost use Rattle.std.specs.Prelude.{◌≡◌, ◌≤◌, true, false, [], length, replicate, IfOk, if◌then◌else◌, count_by, ◌==◌, nat_le, slice_index_or, slice_set};
+ghost use Rattle.std.specs.Prelude.{◌≡◌, ◌≤◌, true, false, [], length, replicate, Ok, Err, is_ok, IfOk, if◌then◌else◌, count_by, ◌==◌, nat_le, slice_index_or, slice_set};
 ghost use Rattle.marks.specs.Marks.{marks, tidy};
-ghost use Rattle.marks.specs.Held.{flags, span};
+ghost use Rattle.marks.specs.Held.{flags, span, Remarked};
 
 use super::LostMap;
-use crate::bytes::{bytes_for, count_bits, has_bit, is_tidy, overwrite, write_marks};
+use crate::bytes::{bytes_for, count_bits, has_bit, is_tidy, write_marks};
+use code::{Code, Refusal};
 use std::alloc::{AllocError, Global};
 
 impl LostMap {
-    // The most positions that a map has, and the bytes that they take.
-    pub const MOST_POSITIONS: u32 = 928;
-
-    const MOST_BYTES: usize = 116;
-
     // A map of no positions, with room for the most.
     pub fn new(heap: Global) -> Result<LostMap, AllocError>
         ensures { IfOk result (λ m. (flags m ≡ []) × (span m ≡ 0)) }
     {
-        let bytes = Vec::with_capacity(heap, LostMap::MOST_BYTES)?;
+        let bytes = Vec::with_capacity(heap, bytes_for(Code::MOST_POSITIONS))?;
         Ok(LostMap { n: 0, bytes })
     }
 
     // Makes it n positions, none marked. Too many are refused, and nothing changes.
-    pub fn blank(&mut self, n: u32) -> bool
-        ensures value { result ≡ nat_le n 928 }
-        ensures flags { flags self.new ≡ (if result then replicate n false else flags self.old) }
-        ensures span { span self.new ≡ (if result then n else span self.old) }
+    pub fn blank(&mut self, n: u32) -> Result<(), Refusal>
+        ensures value { result ≡ (if nat_le n 928 then Ok tt else Err Refusal.Positions) }
+        ensures flags { flags self.new ≡ (if is_ok result then replicate n false else flags self.old) }
+        ensures span { span self.new ≡ (if is_ok result then n else span self.old) }
     {
-        if n > LostMap::MOST_POSITIONS {
-            return false;
+        if n > Code::MOST_POSITIONS {
+            return Err(Refusal::Positions);
         }
         self.n = n;
         self.bytes.clear();
-        let _ = self.bytes.resize(bytes_for(n), 0);
-        true
+        self.bytes.resize(bytes_for(n), 0).unwrap();
+        Ok(())
     }
 
     // Marks a position; past the last there is nothing to mark.
     pub fn set(&mut self, pos: u32)
-        ensures flags { flags self.new ≡ slice_set (flags self.old) pos true }
-        ensures span { span self.new ≡ span self.old }
+        ensures { Remarked self.old self.new (slice_set (flags self.old) pos true) }
     {
-        if pos >= self.n {
-            return;
+        if pos < self.n {
+            self.bytes[(pos / 8) as usize] |= 1 << (pos % 8);
         }
-        self.bytes[(pos / 8) as usize] |= 1 << (pos % 8);
     }
 
     // Takes off the mark of a position.
     pub fn unset(&mut self, pos: u32)
-        ensures flags { flags self.new ≡ slice_set (flags self.old) pos false }
-        ensures span { span self.new ≡ span self.old }
+        ensures { Remarked self.old self.new (slice_set (flags self.old) pos false) }
     {
         if self.has(pos) {
             self.bytes[(pos / 8) as usize] ^= 1 << (pos % 8);
@@ -60,10 +53,7 @@ impl LostMap {
     pub fn has(&self, pos: u32) -> bool
         ensures { result ≡ slice_index_or (flags self.now) pos false }
     {
-        if pos >= self.n {
-            return false;
-        }
-        has_bit(self.bytes.as_slice(), pos)
+        pos < self.n && has_bit(self.bytes.as_slice(), pos)
     }
 
     // Whether these are the bytes of its positions, with no bit past them.
@@ -74,16 +64,15 @@ impl LostMap {
     }
 
     // Takes over such bytes. Others are refused, and nothing changes.
-    pub fn fill(&mut self, map: &[u8]) -> bool
-        ensures value { result ≡ tidy (span self.old) map.now }
-        ensures flags { flags self.new ≡ (if result then marks (span self.old) map.now else flags self.old) }
-        ensures span { span self.new ≡ span self.old }
+    pub fn fill(&mut self, map: &[u8]) -> Result<(), Refusal>
+        ensures value { result ≡ (if tidy (span self.old) map.now then Ok tt else Err Refusal.Map) }
+        ensures after { Remarked self.old self.new (if is_ok result then marks (span self.old) map.now else flags self.old) }
     {
         if !is_tidy(map, self.n) {
-            return false;
+            return Err(Refusal::Map);
         }
-        overwrite(&mut self.bytes, map);
-        true
+        self.bytes.as_mut_slice().copy_from_slice(map);
+        Ok(())
     }
 
     // How many positions are marked: the ones in its bytes.
@@ -95,14 +84,14 @@ impl LostMap {
     }
 
     // Writes for each position whether it is marked. A slice of another length is refused, and nothing changes.
-    pub fn copy_to(&self, out: &mut [bool]) -> bool
-        ensures value { result ≡ (length out.old == span self.now) }
-        ensures after { out.new ≡ (if result then flags self.now else out.old) }
+    pub fn copy_to(&self, out: &mut [bool]) -> Result<(), Refusal>
+        ensures value { result ≡ (if length out.old == span self.now then Ok tt else Err Refusal.Buffer) }
+        ensures after { out.new ≡ (if is_ok result then flags self.now else out.old) }
     {
         if out.len() != self.n as usize {
-            return false;
+            return Err(Refusal::Buffer);
         }
         write_marks(self.bytes.as_slice(), out);
-        true
+        Ok(())
     }
 }

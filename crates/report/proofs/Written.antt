@@ -1,28 +1,24 @@
--- A buffer that is written from its start.
-use Rattle.std.proofs.Common.{◌≡◌, ℕ, suc, ◌+◌, ◌*◌, ◌≤◌, List, [], ◌∷◌, ◌++◌, length, drop, set, sym, refl, ap, ◌∙◌, ap₂, append_assoc, arith, length-append}
-use borrow.Rule.Slice.PartMut.{put_mid}
-use Rattle.std.proofs.lemmas.List.{take_at, drop_at, drop-drop}
+-- A buffer that is written from its start, a number at a time.
+use Rattle.std.proofs.Common.{◌≡◌, ℕ, ◌+◌, ◌-◌, ◌<◌, List, [], ◌∷◌, ◌++◌, map, length, get_or, take, drop, set, sym, refl, ap, ◌∙◌, append_assoc, arith, length-append, length-take-le}
+use Rattle.std.proofs.lemmas.List.{drop-set, drop-set-add, length-map, length_push, map_push, set-append_right, take_more}
 use Rattle.report.specs.Written.{over}
 
--- ys written after what is done
-pub more_written : (a k : ℕ) (out first rest ys : List ℕ) → out ≡ first ++ rest → length first ≡ a → put_mid a k out ys ≡ (first ++ ys) ++ drop k rest
-more_written a k out first rest ys e h =
-    ap (λ (l : List ℕ). put_mid a k l ys) e
-    ∙ ap₂ (λ (l m : List ℕ). l ++ (ys ++ drop k m)) (take_at first rest a h) (drop_at first rest a h)
-    ∙ sym (append_assoc first ys (drop k rest))
+-- y written after xs
+over_more : (xs buf : List ℕ) (i y : ℕ) → length xs ≡ i → i < length buf → set (over xs buf) i y ≡ over (xs ++ (y ∷ [])) buf
+over_more xs buf i y long within =
+    let n = length xs in
+    let here : i - n ≡ 0 = omega arith in
+    let end : n + 0 ≡ n = omega arith in
+    set-append_right xs (drop n buf) n i y refl (omega arith)
+    ∙ ap (λ k. xs ++ set (drop n buf) k y) here
+    ∙ ap (λ l. xs ++ l) (sym (drop-set-add n buf 0 y) ∙ ap (λ k. drop n (set buf k y)) end ∙ drop-set buf n y (omega arith))
+    ∙ sym (append_assoc xs (y ∷ []) (drop (n + 1) buf))
+    ∙ ap (λ k. (xs ++ (y ∷ [])) ++ drop k buf) (sym (length_push xs y))
 
-pub two_written : (buf : List ℕ) (c s : ℕ) → 2 ≤ length buf → set (set buf 0 c) 1 s ≡ (c ∷ (s ∷ [])) ++ drop 2 buf
-two_written [] c s h = absurd (omega arith)
-two_written (x ∷ []) c s h = absurd (omega arith)
-two_written (x ∷ (y ∷ zs)) c s h = refl
-
--- two numbers, then two lists as long as each other
-pub all_written : (k s : ℕ) (buf ps fs : List ℕ) (k₁ k₂ : ℕ) → 2 + 2 * k ≤ length buf → length ps ≡ k → length fs ≡ k → k₁ ≡ k → k₂ ≡ k
-    → put_mid (2 + k) k₂ (put_mid 2 k₁ (set (set buf 0 k) 1 s) ps) fs ≡ over (length ps ∷ (s ∷ (ps ++ fs))) buf
-all_written k s buf ps fs k₁ k₂ h lp lf e₁ e₂ =
-    let two = two_written buf k s (omega arith) in
-    let one = more_written 2 k₁ (set (set buf 0 k) 1 s) (k ∷ (s ∷ [])) (drop 2 buf) ps two refl in
-    let all = more_written (2 + k) k₂ (put_mid 2 k₁ (set (set buf 0 k) 1 s) ps) ((k ∷ (s ∷ [])) ++ ps) (drop k₁ (drop 2 buf)) fs one (omega arith) in
-    let rest : drop k₂ (drop k₁ (drop 2 buf)) ≡ drop (2 + k₁ + k₂) buf = ap (drop k₂) (drop-drop k₁ 2 buf) ∙ drop-drop k₂ (2 + k₁) buf in
-    let count : 2 + k₁ + k₂ ≡ suc (suc (length (ps ++ fs))) = omega (arith, length-append ps fs) in
-    all ∙ ap₂ (λ (x : ℕ) (d : List ℕ). x ∷ (s ∷ ((ps ++ fs) ++ d))) (sym lp) (rest ∙ ap (λ n. drop n buf) count)
+-- the next of a list written after what is written of it
+pub written_more : {X : Type 0} (f : X → ℕ) (first : List ℕ) (cs : List X) (i : ℕ) (d : X) (buf : List ℕ) (at : ℕ) → i < length cs → length first + i ≡ at → at < length buf
+    → set (over (first ++ map f (take i cs)) buf) at (f (get_or cs i d)) ≡ over (first ++ map f (take (i + 1) cs)) buf
+written_more f first cs i d buf at lt e within =
+    let long : length (first ++ map f (take i cs)) ≡ at = omega (arith, length-append first (map f (take i cs)), length-map (take i cs) f, length-take-le i cs) in
+    over_more (first ++ map f (take i cs)) buf at (f (get_or cs i d)) long within
+    ∙ ap (λ l. over l buf) (append_assoc first (map f (take i cs)) (f (get_or cs i d) ∷ []) ∙ ap (λ l. first ++ l) (sym (map_push f (take i cs) (get_or cs i d)) ∙ ap (map f) (sym (take_more cs i d lt))))

@@ -1,4 +1,3 @@
 pub mod Written
 pub mod Told
 pub mod Changes
-pub mod Adding

@@ -1,11 +1,10 @@
-ghost use Rattle.std.specs.Prelude.{◌≡◌, ◌≤◌, length, IfOk, if◌then◌else◌, nat_lt};
+ghost use Rattle.std.specs.Prelude.{◌≡◌, ◌≤◌, length, Ok, Err, is_ok, IfOk, if◌then◌else◌};
 ghost use Rattle.code.specs.Refusals.{numbered};
 ghost use Rattle.report.specs.Written.{no_report, writing};
 ghost use Rattle.report.specs.Changes.{reported, reportable};
-ghost use Rattle.report.specs.Adding.{added};
 ghost use Rattle.report.specs.Told.{told};
 
-use super::Report;
+use super::{Change, Report};
 use code::{Code, Refusal};
 use std::alloc::{AllocError, Global};
 
@@ -14,13 +13,8 @@ impl Report {
     pub fn new(heap: Global) -> Result<Report, AllocError>
         ensures { IfOk result (λ t. told t ≡ no_report) }
     {
-        let places = Vec::with_capacity(heap, Code::MOST_CHECKS as usize)?;
-        let former = Vec::with_capacity(heap, Code::MOST_CHECKS as usize)?;
-        Ok(Report {
-            met: 0,
-            places,
-            former,
-        })
+        let changes = Vec::with_capacity(heap, Code::MOST_CHECKS as usize)?;
+        Ok(Report { met: 0, changes })
     }
 
     // Empties it.
@@ -28,8 +22,7 @@ impl Report {
         ensures { told self.new ≡ no_report }
     {
         self.met = 0;
-        self.places.clear();
-        self.former.clear();
+        self.changes.clear();
     }
 
     // How many positions changed.
@@ -37,56 +30,55 @@ impl Report {
         ensures value { result ≡ length (told self.now).places }
         ensures bound { result ≤ 512 }
     {
-        self.places.len() as u32
-    }
-
-    // Adds a change at its end, where there is room for one.
-    fn add(&mut self, pos: u32, former: u32) -> bool
-        ensures value { result ≡ nat_lt (length (told self.old).places) 512 }
-        ensures after { told self.new ≡ (if result then added (told self.old) pos former else told self.old) }
-    {
-        if self.places.len() >= Code::MOST_CHECKS as usize {
-            return false;
-        }
-        let _ = self.places.push(pos);
-        let _ = self.former.push(former);
-        true
+        self.changes.len() as u32
     }
 
     // Tells of the change from the word `old` to the word `new`, and of how many marks were met.
     // Words of which it cannot tell are refused, and leave it empty.
-    pub fn describe(&mut self, met: u32, old: &[u32], new: &[u32]) -> bool
-        ensures value { result ≡ reportable old.now new.now }
-        ensures after { told self.new ≡ (if result then reported met old.now new.now else no_report) }
+    pub fn describe(&mut self, met: u32, old: &[u32], new: &[u32]) -> Result<(), Refusal>
+        ensures value { result ≡ (if reportable old.now new.now then Ok tt else Err Refusal.Count) }
+        ensures after { told self.new ≡ (if is_ok result then reported met old.now new.now else no_report) }
     {
         self.clear();
         if new.len() != old.len() || old.len() > Code::MOST_POSITIONS as usize {
-            return false;
+            return Err(Refusal::Count);
         }
-        for (pos, former) in old.iter().enumerate() {
-            if new[pos] != *former {
-                if !self.add(pos as u32, *former) {
+        for (position, (former, now)) in old.iter().zip(new).enumerate() {
+            if former != now {
+                if self.changes.len() == Code::MOST_CHECKS as usize {
                     self.clear();
-                    return false;
+                    return Err(Refusal::Count);
                 }
+                self.changes
+                    .push(Change {
+                        position: position as u32,
+                        former: *former,
+                    })
+                    .unwrap();
             }
         }
         self.met = met;
-        true
+        Ok(())
     }
 
-    // Writes it from the start of a buffer: the two sizes, then the two arrays. A buffer too short is refused.
+    // Writes it from the start of a buffer: the two sizes, then all positions, then all former symbols.
+    // A buffer too short is refused.
     pub fn write(&self, out: &mut [u32]) -> Result<(), Refusal>
         ensures { (numbered result, out.new) ≡ writing (told self.now) out.old }
     {
-        let c = self.places.len();
-        if out.len() < 2 + 2 * c {
+        let count = self.changes.len();
+        if out.len() < 2 + 2 * count {
             return Err(Refusal::Buffer);
         }
-        out[0] = c as u32;
+        out[0] = count as u32;
         out[1] = self.met;
-        out[2..2 + c].copy_from_slice(self.places.as_slice());
-        out[2 + c..2 + 2 * c].copy_from_slice(self.former.as_slice());
+        // The places are counted, since a zip with `iter_mut` proves nothing of what it writes.
+        for (i, change) in self.changes.iter().enumerate() {
+            out[2 + i] = change.position;
+        }
+        for (j, change) in self.changes.iter().enumerate() {
+            out[2 + count + j] = change.former;
+        }
         Ok(())
     }
 }

@@ -1,20 +1,14 @@
-use Rattle.std.proofs.Common.{ℕ, ◌/◌, ◌%◌, ◌^◌, ◌<◌, ◌≤◌, List, get_or, sym, refl, ap, ◌∙◌, subst}
+use Rattle.std.proofs.Common.{length, sym, refl, ap, ◌∙◌, rules}
+use Rattle.std.proofs.lemmas.List.{take_at}
 use Rattle.marks.specs.Held.{flags}
 use Rattle.marks.specs.Marks.{marks}
+use Rattle.marks.proofs.Reading.{clean}
 use Rattle.marks.proofs.LostMap.fill.Goals as goal
 
-pub invariant_of-self : goal.invariant_of-self
-invariant_of-self c =
-    let m = c.args.self.now in
-    let P : List ℕ → Type 0 = λ l. get_or l (m.n / 8) 0 < 2 ^ (m.n % 8) in
-    let clean = c.is_tidy.ensures.clean c.if-not-is_tidy.false in
-    record { few = m.few; long = c.overwrite.ensures.len ∙ m.long; tidy = subst P (sym c.overwrite.ensures.items) clean.rest; room = subst (λ (k : ℕ). 116 ≤ k) (sym c.overwrite.ensures.capacity) m.room }
+pub copy_from_slice-requires : goal.copy_from_slice-requires
+copy_from_slice-requires c =
+    ap length c.as_mut_slice.ensures.value ∙ (clean c.args.self.now).bytes ∙ sym (c.is_tidy.ensures.clean c.if-not-is_tidy.false).bytes
 
-pub overwrite-requires : goal.overwrite-requires
-overwrite-requires c =
-    let m = c.args.self.now in
-    (c.is_tidy.ensures.clean c.if-not-is_tidy.false).bytes ∙ sym m.long
-
-pub returns : goal.returns
+pub returns-clause-after : goal.returns-clause-after
 unfolding flags
-returns c = record { value = c.if-not-is_tidy.ensures.value; flags = ap (marks c.args.self.now.n) c.overwrite.ensures.items; span = refl }
+returns-clause-after c = record { flags = ap (marks c.args.self.now.n) (take_at _ _ _ (search rules) ∙ c.copy_from_slice.ensures.after); span = refl }

@@ -1,21 +1,25 @@
-use Rattle.std.proofs.Common.{◌≡◌, ℕ, ◌+◌, ◌-◌, ◌*◌, ◌≤◌, Bool, cond, List, length, set, sym, ap, ◌∙◌, ap₂, arith, le-ltb}
-use borrow.Rule.Slice.PartMut.{put_mid}
-use Rattle.report.specs.Written.{refused, done, over, written}
-use Rattle.report.specs.Told.{told}
-use Rattle.report.proofs.Written.{all_written}
+use Rattle.std.proofs.Common.{ℕ, ◌+◌, List, [], ◌∷◌, get_or, set, ap, ◌∙◌, arith, map}
+use Rattle.std.proofs.lemmas.List.{length-map}
+use Rattle.report.specs.declared.Change.{Change}
+use Rattle.report.proofs.Written.{written_more}
 use Rattle.report.proofs.Report.write.Goals as goal
 
-pub returns : goal.returns
-returns c =
-    let r = c.args.self.now in
-    let k = c.len-c.result in
-    let ps : c.copy_from_slice.new.self ≡ r.places.items = c.copy_from_slice.ensures.after ∙ c.as_slice.ensures.value in
-    let fs : c.copy_from_slice-2.new.self ≡ r.former.items = c.copy_from_slice-2.ensures.after ∙ c.as_slice-2.ensures.value in
-    let lp : length r.places.items ≡ k = omega arith in
-    let lf : length r.former.items ≡ k = omega arith in
-    let buf = c.args.out.now in
-    let wide : 2 + 2 * length r.places.items ≤ length buf = omega arith in
-    ap done
-    (ap₂ (λ (a b : List ℕ). put_mid (2 + k) (2 + 2 * k - (2 + k)) (put_mid 2 (2 + k - 2) (set (set buf 0 k) 1 r.met) a) b) ps fs
-    ∙ all_written k r.met buf r.places.items r.former.items _ _ (omega arith) lp lf (omega arith) (omega arith))
-    ∙ sym (ap (λ (b : Bool). cond b (refused 13 buf) (done (over (written (told r)) buf))) (le-ltb _ _ wide))
+-- what is read past the end
+abbrev none : Change
+none = record { position = 0; former = 0 }
+
+pub loop-i-preserved : goal.loop-i-preserved
+loop-i-preserved c =
+    let cs = c.deref-change-items.result.now in
+    let i = c.loop-i.i in
+    ap (λ (o : List ℕ). set o (2 + i) (get_or cs i none).position) c.loop-i.invariant
+    ∙ written_more (λ (x : Change). x.position) (c.len-count.result ∷ (c.args.self.now.met ∷ [])) cs i _ c.args.out.now (2 + i) c.loop-i-test.true (omega arith) (omega (arith, c.loop-i-test.true, c.deref-change-items.ensures.len, c.len-count.ensures, c.if-out-count.false))
+
+pub loop-j-preserved : goal.loop-j-preserved
+loop-j-preserved c =
+    let cs = c.deref-change-items-2.result.now in
+    let j = c.loop-j.j in
+    let places = map (λ (x : Change). x.position) c.args.self.now.changes.items in
+    let count = c.len-count.result in
+    ap (λ (o : List ℕ). set o (2 + count + j) (get_or cs j none).former) c.loop-j.invariant
+    ∙ written_more (λ (x : Change). x.former) (count ∷ (c.args.self.now.met ∷ places)) cs j _ c.args.out.now (2 + count + j) c.loop-j-test.true (omega (arith, length-map c.args.self.now.changes.items (λ (x : Change). x.position), c.args.self.now.changes.ok.0, c.len-count.ensures)) (omega (arith, c.loop-j-test.true, c.deref-change-items-2.ensures.len, c.len-count.ensures, c.if-out-count.false))
