@@ -89,9 +89,8 @@ pub(crate) fn correct_word<F: Fixed<Q, M>, const Q: u32, const M: u32>(
     let code = Code::new(n, checks, first)?;
     let mut room = [false; POSITIONS];
     let erased = &mut room[0..n as usize];
-    if spread(map, erased) {
-        correct(field, &code, erased, word)
-    } else {
-        correct(field, &code, &[], word)
+    match spread(map, erased) {
+        Ok(()) => correct(field, &code, erased, word),
+        Err(_) => correct(field, &code, &[], word),
     }
 }
