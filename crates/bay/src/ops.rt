@@ -7,7 +7,6 @@ ghost use Rattle.bay.specs.Means.{Encoded, ComesBack, Refuses, Corrects};
 ghost use Rattle.bay.specs.Held.{held};
 
 use crate::Bay;
-use crate::fill::{overwrite, zeros};
 use code::word::is_below;
 use code::{Code, Refusal};
 use corrector::correct;
@@ -55,8 +54,9 @@ impl<F: Fixed<Q, M>, const Q: u32, const M: u32> Bay<F, Q, M> {
             return Err(Refusal::HasCode);
         }
         self.code = Some(code);
-        zeros(&mut self.word, n);
-        self.lost.blank(n);
+        self.word.clear();
+        self.word.resize(n as usize, 0).unwrap();
+        self.lost.blank(n).unwrap();
         self.report.clear();
         Ok(())
     }
@@ -66,9 +66,7 @@ impl<F: Fixed<Q, M>, const Q: u32, const M: u32> Bay<F, Q, M> {
         ensures does { (numbered result, held self.new) ≡ loading (F.Field.means self.old.field) (held self.old) word.now map.now }
         ensures same { self.new.field ≡ self.old.field }
     {
-        let Some(code) = self.code else {
-            return Err(Refusal::NoCode);
-        };
+        let code = self.coded()?;
         if word.len() != code.n() as usize {
             return Err(Refusal::Count);
         }
@@ -78,8 +76,8 @@ impl<F: Fixed<Q, M>, const Q: u32, const M: u32> Bay<F, Q, M> {
         if !is_below(word, Q) {
             return Err(Refusal::Symbol);
         }
-        self.lost.fill(map);
-        overwrite(&mut self.word, word);
+        self.lost.fill(map).unwrap();
+        self.word.as_mut_slice().copy_from_slice(word);
         self.report.clear();
         Ok(())
     }
@@ -89,9 +87,7 @@ impl<F: Fixed<Q, M>, const Q: u32, const M: u32> Bay<F, Q, M> {
         ensures does { (numbered result, held self.new) ≡ putting (F.Field.means self.old.field) (held self.old) pos sym }
         ensures same { self.new.field ≡ self.old.field }
     {
-        let Some(code) = self.code else {
-            return Err(Refusal::NoCode);
-        };
+        let code = self.coded()?;
         if pos >= code.n() {
             return Err(Refusal::Position);
         }
@@ -108,9 +104,7 @@ impl<F: Fixed<Q, M>, const Q: u32, const M: u32> Bay<F, Q, M> {
         ensures does { (numbered result, held self.new) ≡ marking (held self.old) pos }
         ensures same { self.new.field ≡ self.old.field }
     {
-        let Some(code) = self.code else {
-            return Err(Refusal::NoCode);
-        };
+        let code = self.coded()?;
         if pos >= code.n() {
             return Err(Refusal::Position);
         }
@@ -126,11 +120,9 @@ impl<F: Fixed<Q, M>, const Q: u32, const M: u32> Bay<F, Q, M> {
         ensures does { (numbered result, held self.new) ≡ clearing (held self.old) }
         ensures same { self.new.field ≡ self.old.field }
     {
-        let Some(code) = self.code else {
-            return Err(Refusal::NoCode);
-        };
+        let code = self.coded()?;
         let positions = code.n();
-        self.lost.blank(positions);
+        self.lost.blank(positions).unwrap();
         Ok(())
     }
 
@@ -141,11 +133,9 @@ impl<F: Fixed<Q, M>, const Q: u32, const M: u32> Bay<F, Q, M> {
         ensures comes_back { numbered result ≡ Ok tt → ComesBack (F.Field.means self.old.field) (held self.new) }
         ensures same { self.new.field ≡ self.old.field }
     {
-        let Some(code) = self.code else {
-            return Err(Refusal::NoCode);
-        };
-        encode(&self.field, &code, self.word.as_mut_slice())?;
-        self.lost.blank(code.n());
+        let code = self.coded()?;
+        encode(&self.field, &code, self.word.as_mut_slice()).unwrap();
+        self.lost.blank(code.n()).unwrap();
         self.report.clear();
         Ok(())
     }
@@ -157,10 +147,9 @@ impl<F: Fixed<Q, M>, const Q: u32, const M: u32> Bay<F, Q, M> {
         ensures corrects { Corrects (F.Field.means self.old.field) (held self.old) (numbered result) (held self.new) }
         ensures same { self.new.field ≡ self.old.field }
     {
-        let Some(code) = self.code else {
-            return Err(Refusal::NoCode);
-        };
+        let code = self.coded()?;
         let n = code.n() as usize;
+        // Arrays, since a call on a bay takes no memory.
         let mut erased = [false; POSITIONS];
         let mut word = [0; POSITIONS];
         self.repair(code, &mut erased[0..n], &mut word[0..n])
@@ -174,13 +163,14 @@ impl<F: Fixed<Q, M>, const Q: u32, const M: u32> Bay<F, Q, M> {
         ensures does { (numbered result, held self.new) ≡ correcting (F.Field.means self.old.field) (held self.old) }
         ensures same { self.new.field ≡ self.old.field }
     {
-        self.lost.copy_to(erased);
+        self.lost.copy_to(erased).unwrap();
         word.copy_from_slice(self.word.as_slice());
         correct(&self.field, &code, erased, word)?;
         self.report
-            .describe(self.lost.count(), self.word.as_slice(), word);
-        overwrite(&mut self.word, word);
-        self.lost.blank(code.n());
+            .describe(self.lost.count(), self.word.as_slice(), word)
+            .unwrap();
+        self.word.as_mut_slice().copy_from_slice(word);
+        self.lost.blank(code.n()).unwrap();
         Ok(())
     }
 }
