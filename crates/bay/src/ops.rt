@@ -4,7 +4,7 @@ ghost use Rattle.code.specs.Refusals.{numbered};
 ghost use Rattle.code.specs.Shape.{shape};
 ghost use Rattle.bay.specs.Plain.{empty, making, loading, putting, marking, clearing, encoding, correcting};
 ghost use Rattle.bay.specs.Means.{Encoded, ComesBack, Refuses, Corrects};
-ghost use Rattle.bay.specs.Held.{held};
+ghost use Rattle.bay.specs.Held.{held, Follows};
 
 use crate::Bay;
 use code::word::is_below;
@@ -40,8 +40,7 @@ impl<F: Fixed<Q, M>, const Q: u32, const M: u32> Bay<F, Q, M> {
 
     // Gives the code of n positions, r checks and the first root b, n zeros, no marks and an empty report.
     pub fn make(&mut self, n: u32, r: u32, b: u32) -> Result<(), Refusal>
-        ensures does { (numbered result, held self.new) ≡ making (F.Field.means self.old.field) (held self.old) n r b }
-        ensures same { self.new.field ≡ self.old.field }
+        ensures { Follows self.old self.new (numbered result) (making (F.Field.means self.old.field) (held self.old) n r b) }
     {
         let code = Code::new(n, r, b)?;
         if n > M {
@@ -63,8 +62,7 @@ impl<F: Fixed<Q, M>, const Q: u32, const M: u32> Bay<F, Q, M> {
 
     // Replaces the word and its marks, and empties the report.
     pub fn load(&mut self, word: &[u32], map: &[u8]) -> Result<(), Refusal>
-        ensures does { (numbered result, held self.new) ≡ loading (F.Field.means self.old.field) (held self.old) word.now map.now }
-        ensures same { self.new.field ≡ self.old.field }
+        ensures { Follows self.old self.new (numbered result) (loading (F.Field.means self.old.field) (held self.old) word.now map.now) }
     {
         let code = self.coded()?;
         if word.len() != code.n() as usize {
@@ -84,8 +82,7 @@ impl<F: Fixed<Q, M>, const Q: u32, const M: u32> Bay<F, Q, M> {
 
     // Writes one symbol, and takes off that position's mark.
     pub fn put(&mut self, pos: u32, sym: u32) -> Result<(), Refusal>
-        ensures does { (numbered result, held self.new) ≡ putting (F.Field.means self.old.field) (held self.old) pos sym }
-        ensures same { self.new.field ≡ self.old.field }
+        ensures { Follows self.old self.new (numbered result) (putting (F.Field.means self.old.field) (held self.old) pos sym) }
     {
         let code = self.coded()?;
         if pos >= code.n() {
@@ -101,8 +98,7 @@ impl<F: Fixed<Q, M>, const Q: u32, const M: u32> Bay<F, Q, M> {
 
     // Marks one position, and keeps its symbol.
     pub fn mark(&mut self, pos: u32) -> Result<(), Refusal>
-        ensures does { (numbered result, held self.new) ≡ marking (held self.old) pos }
-        ensures same { self.new.field ≡ self.old.field }
+        ensures { Follows self.old self.new (numbered result) (marking (held self.old) pos) }
     {
         let code = self.coded()?;
         if pos >= code.n() {
@@ -117,8 +113,7 @@ impl<F: Fixed<Q, M>, const Q: u32, const M: u32> Bay<F, Q, M> {
 
     // Takes off all marks.
     pub fn clear(&mut self) -> Result<(), Refusal>
-        ensures does { (numbered result, held self.new) ≡ clearing (held self.old) }
-        ensures same { self.new.field ≡ self.old.field }
+        ensures { Follows self.old self.new (numbered result) (clearing (held self.old)) }
     {
         let code = self.coded()?;
         let positions = code.n();
@@ -128,10 +123,9 @@ impl<F: Fixed<Q, M>, const Q: u32, const M: u32> Bay<F, Q, M> {
 
     // Replaces the checks so that the word is a codeword, takes off all marks and empties the report.
     pub fn encode(&mut self) -> Result<(), Refusal>
-        ensures does { (numbered result, held self.new) ≡ encoding (F.Field.means self.old.field) (held self.old) }
+        ensures follows { Follows self.old self.new (numbered result) (encoding (F.Field.means self.old.field) (held self.old)) }
         ensures encodes { Encoded (F.Field.means self.old.field) (held self.old) (numbered result) (held self.new) }
         ensures comes_back { numbered result ≡ Ok tt → ComesBack (F.Field.means self.old.field) (held self.new) }
-        ensures same { self.new.field ≡ self.old.field }
     {
         let code = self.coded()?;
         encode(&self.field, &code, self.word.as_mut_slice()).unwrap();
@@ -142,10 +136,9 @@ impl<F: Fixed<Q, M>, const Q: u32, const M: u32> Bay<F, Q, M> {
 
     // Makes the word the codeword in reach, takes off all marks and writes the report.
     pub fn correct(&mut self) -> Result<(), Refusal>
-        ensures does { (numbered result, held self.new) ≡ correcting (F.Field.means self.old.field) (held self.old) }
+        ensures follows { Follows self.old self.new (numbered result) (correcting (F.Field.means self.old.field) (held self.old)) }
         ensures refuses { Refuses (F.Field.means self.old.field) (held self.old) (numbered result) }
         ensures corrects { Corrects (F.Field.means self.old.field) (held self.old) (numbered result) (held self.new) }
-        ensures same { self.new.field ≡ self.old.field }
     {
         let code = self.coded()?;
         let n = code.n() as usize;
@@ -160,8 +153,7 @@ impl<F: Fixed<Q, M>, const Q: u32, const M: u32> Bay<F, Q, M> {
         requires coded { self.old.code ≡ Some code }
         requires wide { length erased.old ≡ (shape code).n }
         requires long { length word.old ≡ (shape code).n }
-        ensures does { (numbered result, held self.new) ≡ correcting (F.Field.means self.old.field) (held self.old) }
-        ensures same { self.new.field ≡ self.old.field }
+        ensures { Follows self.old self.new (numbered result) (correcting (F.Field.means self.old.field) (held self.old)) }
     {
         self.lost.copy_to(erased).unwrap();
         word.copy_from_slice(self.word.as_slice());

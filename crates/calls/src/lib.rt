@@ -5,7 +5,7 @@
 ghost use Rattle.std.specs.Prelude.{◌≡◌, map, MatchResult};
 ghost use Rattle.code.specs.Refusals.{numbered};
 ghost use Rattle.bay.specs.Plain.{empty, testing, placing};
-ghost use Rattle.bay.specs.Held.{held};
+ghost use Rattle.bay.specs.Held.{held, Follows};
 ghost use Rattle.calls.specs.Steps.{plainly, rooted, placed, step, runs, Composes};
 ghost use Rattle.calls.specs.Runs.{asked, said, told};
 
@@ -74,8 +74,7 @@ fn ask_message<F: Fixed<Q, M>, const Q: u32, const M: u32>(
 
 // Makes the call of a line, and puts the answer there.
 pub fn perform<F: Fixed<Q, M>, const Q: u32, const M: u32>(bay: &mut Bay<F, Q, M>, line: &mut Line)
-    ensures does { (told line.new, held bay.new) ≡ step (F.Field.means bay.old.field) (held bay.old) (asked line.old.call) }
-    ensures same { bay.new.field ≡ bay.old.field }
+    ensures { Follows bay.old bay.new (told line.new) (step (F.Field.means bay.old.field) (held bay.old) (asked line.old.call)) }
 {
     line.answer = match &mut line.call {
         Call::Make(n, r, b) => answered(bay.make(*n, *r, *b)),
@@ -94,8 +93,7 @@ pub fn perform<F: Fixed<Q, M>, const Q: u32, const M: u32>(bay: &mut Bay<F, Q, M
 
 // Makes the calls, one after another. To make some and then others is to make them all.
 pub fn run<F: Fixed<Q, M>, const Q: u32, const M: u32>(bay: &mut Bay<F, Q, M>, lines: &mut [Line])
-    ensures does { (map told lines.new, held bay.new) ≡ runs (F.Field.means bay.old.field) (held bay.old) (map (λ l. asked l.call) lines.old) }
-    ensures same { bay.new.field ≡ bay.old.field }
+    ensures follows { Follows bay.old bay.new (map told lines.new) (runs (F.Field.means bay.old.field) (held bay.old) (map (λ l. asked l.call) lines.old)) }
     ensures composes { Composes }
 {
     for line in lines.iter_mut() {

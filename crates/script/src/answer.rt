@@ -1,6 +1,6 @@
 // The answer to a line: the call that it asks for is made, and what it answers is written out.
 ghost use Rattle.std.specs.Prelude.{◌≡◌, IfOk, string_bytes};
-ghost use Rattle.bay.specs.Held.{held};
+ghost use Rattle.bay.specs.Held.{held, Follows};
 ghost use Rattle.calls.specs.Runs.{asked, said, told};
 ghost use Rattle.calls.specs.Steps.{step};
 ghost use Rattle.text.specs.Answers.{accepting};
@@ -48,8 +48,7 @@ fn reply(heap: Global, n: u32, line: Line) -> Result<String, AllocError>
 
 // A run of one call, and the line that it leaves: the law over all runs then holds of what the program does.
 fn run_one<F: Fixed<Q, M>, const Q: u32, const M: u32>(bay: &mut Bay<F, Q, M>, call: Call) -> Line
-    ensures does { (told result, held bay.new) ≡ step (F.Field.means bay.old.field) (held bay.old) (asked call) }
-    ensures same { bay.new.field ≡ bay.old.field }
+    ensures { Follows bay.old bay.new (told result) (step (F.Field.means bay.old.field) (held bay.old) (asked call)) }
 {
     let answer = Ok(Outcome::Done);
     let mut line = Line { call, answer };

@@ -11,4 +11,4 @@ returns g c =
     let f = g.F.Field.means s.field in
     let turn = sym (g.met.F.Fixed.turn s.field) in
     let r = both f (held s) (g.met.F.Field.lawful s.field) (λ d e. subst (λ (k : ℕ). d.n ≤ k) turn (code_in g.row.M s.code s.fits d e)) (numbered c.repair.result) (held c.repair.new.self) c.repair.ensures.does in
-    record { does = c.repair.ensures.does; refuses = r.0; corrects = r.1; same = c.repair.ensures.same }
+    record { follows = c.repair.ensures; refuses = r.0; corrects = r.1 }

@@ -15,8 +15,8 @@ use Rattle.bay.proofs.Encoding.{is_encoded}
 use Rattle.bay.proofs.RoundTrip.{restored}
 use Rattle.bay.proofs.Bay.encode.Goals as goal
 
-pub returns-clause-does : goal.returns-clause-does
-returns-clause-does g c =
+pub returns-clause-follows : goal.returns-clause-follows
+returns-clause-follows g c =
     let s = c.args.self.now in
     let d = shape c.in_ok-code.code in
     let new = c.encode.new.word in
@@ -24,7 +24,7 @@ returns-clause-does g c =
     let none : flags c.blank.new.self ≡ replicate d.n false = search rules in
     let E : List ℕ → Type 0 = λ w. Encodes (g.F.Field.means s.field) d w new in
     let encodes : Encodes (g.F.Field.means s.field) d s.word.items new = subst E c.as_mut_slice.ensures.value (c.encode.ensures.encodes c.unwrap.ensures) in
-    done_with refl back none c.clear.ensures ∙ is_encoded (g.F.Field.means s.field) (held s) d new (ap shaped c.in_ok-code.ensures) encodes
+    record { does = done_with refl back none c.clear.ensures ∙ is_encoded (g.F.Field.means s.field) (held s) d new (ap shaped c.in_ok-code.ensures) encodes; same = refl }
 
 pub returns-clause-comes_back : goal.returns-clause-comes_back
 returns-clause-comes_back g c =

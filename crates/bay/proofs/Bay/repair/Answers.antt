@@ -22,8 +22,8 @@ use Rattle.bay.proofs.Correcting.{is_corrected, is_refused, moved}
 use Rattle.bay.proofs.Changing.{few_changes}
 use Rattle.bay.proofs.Bay.repair.Goals as goal
 
-pub returns-in_err-correct-clause-does : goal.returns-in_err-correct-clause-does
-returns-in_err-correct-clause-does g c =
+pub returns-in_err-correct : goal.returns-in_err-correct
+returns-in_err-correct g c =
     let s = c.args.self.now in
     let f = g.F.Field.means s.field in
     let d = shape c.args.code in
@@ -34,8 +34,11 @@ returns-in_err-correct-clause-does g c =
     let kept = fits_kept f g.row.Q g.row.M s.code c.args.code s.word.items (g.met.F.Fixed.size s.field) (g.met.F.Fixed.turn s.field) c.requires.coded s.fits s.starts (sym s.word.ok.0 ∙ s.long) s.symbols in
     let p = err_from_is_err_and c.from_residual.result c.from_residual.ensures.1 in
     let was : c.from_residual.result ≡ Err c.in_err-correct.field-0.0 = p.1 ∙ ap Err p.2 in
-    ap (λ (r : Result (Unit {0}) Refusal). (numbered r, held s)) was
-    ∙ is_refused f (held s) d (ap shaped c.requires.coded) _ _ met (fits_erased f d s.word.items kept (flags s.lost) (length_flags s.lost ∙ wide)) (number c.in_err-correct.field-0.0) (ap numbered c.in_err-correct.was)
+    record {
+      does = ap (λ (r : Result (Unit {0}) Refusal). (numbered r, held s)) was
+          ∙ is_refused f (held s) d (ap shaped c.requires.coded) _ _ met (fits_erased f d s.word.items kept (flags s.lost) (length_flags s.lost ∙ wide)) (number c.in_err-correct.field-0.0) (ap numbered c.in_err-correct.was);
+      same = refl;
+    }
 
 pub unwrap-requires-2 : goal.unwrap-requires-2
 unwrap-requires-2 g c =
@@ -62,8 +65,8 @@ invariant_of-self-2-clause-symbols g c =
     let symbols = (c.correct.ensures.near (ap numbered c.in_ok-correct.was)).word.symbols in
     ap (all_below g.row.Q) back ∙ ap (λ (q : ℕ). all_below q new) (sym (g.met.F.Fixed.size s.field)) ∙ symbols
 
-pub returns-clause-does : goal.returns-clause-does
-returns-clause-does g c =
+pub returns : goal.returns
+returns g c =
     let s = c.args.self.now in
     let f = g.F.Field.means s.field in
     let d = shape c.args.code in
@@ -78,5 +81,8 @@ returns-clause-does g c =
     with_items_is s.word _ (c.copy_from_slice-2.auto.self ∙ c.as_mut_slice.ensures.len) ∙ c.copy_from_slice-2.ensures.after in
     let told_is : told c.describe.new.self ≡ reported c.count.result old new = search rules in
     let none : flags c.blank.new.self ≡ replicate d.n false = search rules in
-    done_with refl back none (told_is ∙ ap (λ (k : ℕ). reported k old new) count)
-    ∙ is_corrected f (held s) d (ap shaped c.requires.coded) _ new met (ap numbered c.in_ok-correct.was)
+    record {
+      does = done_with refl back none (told_is ∙ ap (λ (k : ℕ). reported k old new) count)
+          ∙ is_corrected f (held s) d (ap shaped c.requires.coded) _ new met (ap numbered c.in_ok-correct.was);
+      same = refl;
+    }
