@@ -1,12 +1,11 @@
 -- The word of a bay fits its code, and the code the field.
-use Rattle.std.proofs.Common.{◌≡◌, ℕ, ◌<◌, ◌≤◌, Bool, true, List, length, Some, None, Ok, Err, Option, sym, ap, ◌∙◌, subst, arith, le-ltb, eq-eqb}
+use Rattle.std.proofs.Common.{◌≡◌, ℕ, ◌<◌, ◌≤◌, Bool, true, List, length, Some, None, Ok, Option, sym, ap, ◌∙◌, subst, arith, le-ltb, eq-eqb}
 use borrow.Author.Tests.{lt-leb}
 use Rattle.field.specs.Meaning.{Meaning}
 use Rattle.field.specs.Symbols.{all_below}
 use Rattle.code.specs.declared.Code.{Code}
 use Rattle.code.specs.Shape.{Shape, shape}
 use Rattle.code.specs.Words.{Word}
-use Rattle.code.specs.Fitting.{fitting}
 use Rattle.corrector.specs.Corrected.{fitting_erased}
 use Rattle.bay.specs.Shapes.{width, root, shaped}
 
@@ -29,12 +28,6 @@ code_in m (Some d) h c e = let same : shape d ≡ c = cc in subst (λ (x : Shape
 code_in m None h c e = let z : ◌≡◌ {A = ℕ} 0 1 = cc in absurd (omega arith)
 
 module _ (f : Meaning) (c : Shape) (w : List ℕ) (h : Fits f c w) where
-  pub fits_all : {X : Type 0} (x : X) → fitting f c w x ≡ Ok x
-  fits_all x = simp (le-ltb f.m c.n h.turn, lt-leb f.m c.first h.start, eq-eqb (length w) c.n h.word.long, h.word.symbols)
-
-  pub never_refused : {X : Type 0} (x : X) (k : ℕ) → Err k ≡ fitting f c w x → ⊥
-  never_refused x k e = let t = fits_all x in let z : ◌≡◌ {A = ℕ} 0 1 = cc in omega arith
-
   pub fits_erased : (erased : List Bool) → length erased ≡ c.n → fitting_erased f c erased w ≡ Ok tt
   fits_erased erased l =
       simp (le-ltb f.m c.n h.turn, lt-leb f.m c.first h.start, eq-eqb (length w) c.n h.word.long, eq-eqb (length erased) c.n l, h.word.symbols)

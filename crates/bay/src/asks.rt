@@ -1,42 +1,41 @@
 // The calls that change nothing in a bay.
-ghost use Rattle.std.specs.Prelude.{◌≡◌, ◌+◌, ◌*◌, length, take, drop, IfOk, Ok, Err, MatchResult};
+ghost use Rattle.std.specs.Prelude.{◌≡◌, ◌+◌, ◌*◌, length, take, drop, IfOk, Some, None, Ok, Err, MatchResult};
 ghost use Rattle.code.specs.Refusals.{number, numbered};
 ghost use Rattle.bay.specs.Plain.{given, testing, reading, reporting, placing};
 ghost use Rattle.bay.specs.Held.{held};
 
 use crate::Bay;
-use code::Refusal;
 use code::word::first_failing_root;
+use code::{Code, Refusal};
 use field::Fixed;
 
 impl<F: Fixed<Q, M>, const Q: u32, const M: u32> Bay<F, Q, M> {
+    // The code, which most calls ask for first.
+    pub(crate) fn coded(&self) -> Result<Code, Refusal>
+        ensures { MatchResult result (λ c. self.now.code ≡ Some c) (λ e. (self.now.code ≡ None) × (e ≡ Refusal.NoCode)) }
+    {
+        self.code.ok_or(Refusal::NoCode)
+    }
+
     // How many positions the word has: 0 where there is no code.
     pub fn positions(&self) -> u32
         ensures { result ≡ given (held self.now).code 0 (λ c. c.n) }
     {
-        match self.code {
-            Some(code) => code.n(),
-            None => 0,
-        }
+        self.code.map_or(0, |code| code.n())
     }
 
     // How many of them are checks.
     pub fn checks(&self) -> u32
         ensures { result ≡ given (held self.now).code 0 (λ c. c.checks) }
     {
-        match self.code {
-            Some(code) => code.checks(),
-            None => 0,
-        }
+        self.code.map_or(0, |code| code.checks())
     }
 
     // Nothing where all check sums are 0, and otherwise the lowest that fails.
     pub fn test(&self) -> Result<Option<u32>, Refusal>
         ensures { numbered result ≡ testing (F.Field.means self.now.field) (held self.now) }
     {
-        let Some(code) = self.code else {
-            return Err(Refusal::NoCode);
-        };
+        let code = self.coded()?;
         first_failing_root(&self.field, &code, self.word.as_slice())
     }
 
@@ -44,9 +43,7 @@ impl<F: Fixed<Q, M>, const Q: u32, const M: u32> Bay<F, Q, M> {
     pub fn read(&self, out: &mut [u32]) -> Result<(), Refusal>
         ensures { (numbered result, out.new) ≡ reading (held self.now) out.old }
     {
-        let Some(code) = self.code else {
-            return Err(Refusal::NoCode);
-        };
+        let code = self.coded()?;
         let n = code.n() as usize;
         if out.len() < n {
             return Err(Refusal::Buffer);
@@ -59,9 +56,7 @@ impl<F: Fixed<Q, M>, const Q: u32, const M: u32> Bay<F, Q, M> {
     pub fn report(&self, out: &mut [u32]) -> Result<(), Refusal>
         ensures { (numbered result, out.new) ≡ reporting (held self.now) out.old }
     {
-        if self.code.is_none() {
-            return Err(Refusal::NoCode);
-        }
+        self.coded()?;
         self.report.write(out)
     }
 
@@ -72,9 +67,7 @@ impl<F: Fixed<Q, M>, const Q: u32, const M: u32> Bay<F, Q, M> {
         ensures block { IfOk result (λ s. s.ref_ptr.0 ≡ buf.entry.ref_ptr.0) }
         ensures start { IfOk result (λ s. s.ref_ptr.1 ≡ buf.entry.ref_ptr.1 + given (held self.now).code 0 (λ c. c.checks) * 4) }
     {
-        let Some(code) = self.code else {
-            return Err(Refusal::NoCode);
-        };
+        let code = self.coded()?;
         let n = code.n() as usize;
         if buf.len() < n {
             return Err(Refusal::Buffer);

@@ -8,7 +8,6 @@ ghost use Rattle.marks.specs.Held.{span};
 ghost use Rattle.bay.specs.Shapes.{width, root};
 
 mod asks;
-mod fill;
 mod ops;
 
 use code::Code;

@@ -4,10 +4,9 @@ ghost use Rattle.code.specs.Refusals.{numbered};
 ghost use Rattle.code.specs.Shape.{shape};
 ghost use Rattle.bay.specs.Plain.{empty, making, loading, putting, marking, clearing, encoding, correcting};
 ghost use Rattle.bay.specs.Means.{Encoded, ComesBack, Refuses, Corrects};
-ghost use Rattle.bay.specs.Held.{held};
+ghost use Rattle.bay.specs.Held.{held, Follows};
 
 use crate::Bay;
-use crate::fill::{overwrite, zeros};
 use code::word::is_below;
 use code::{Code, Refusal};
 use corrector::correct;
@@ -41,8 +40,7 @@ impl<F: Fixed<Q, M>, const Q: u32, const M: u32> Bay<F, Q, M> {
 
     // Gives the code of n positions, r checks and the first root b, n zeros, no marks and an empty report.
     pub fn make(&mut self, n: u32, r: u32, b: u32) -> Result<(), Refusal>
-        ensures does { (numbered result, held self.new) ≡ making (F.Field.means self.old.field) (held self.old) n r b }
-        ensures same { self.new.field ≡ self.old.field }
+        ensures { Follows self.old self.new (numbered result) (making (F.Field.means self.old.field) (held self.old) n r b) }
     {
         let code = Code::new(n, r, b)?;
         if n > M {
@@ -55,20 +53,18 @@ impl<F: Fixed<Q, M>, const Q: u32, const M: u32> Bay<F, Q, M> {
             return Err(Refusal::HasCode);
         }
         self.code = Some(code);
-        zeros(&mut self.word, n);
-        self.lost.blank(n);
+        self.word.clear();
+        self.word.resize(n as usize, 0).unwrap();
+        self.lost.blank(n).unwrap();
         self.report.clear();
         Ok(())
     }
 
     // Replaces the word and its marks, and empties the report.
     pub fn load(&mut self, word: &[u32], map: &[u8]) -> Result<(), Refusal>
-        ensures does { (numbered result, held self.new) ≡ loading (F.Field.means self.old.field) (held self.old) word.now map.now }
-        ensures same { self.new.field ≡ self.old.field }
+        ensures { Follows self.old self.new (numbered result) (loading (F.Field.means self.old.field) (held self.old) word.now map.now) }
     {
-        let Some(code) = self.code else {
-            return Err(Refusal::NoCode);
-        };
+        let code = self.coded()?;
         if word.len() != code.n() as usize {
             return Err(Refusal::Count);
         }
@@ -78,20 +74,17 @@ impl<F: Fixed<Q, M>, const Q: u32, const M: u32> Bay<F, Q, M> {
         if !is_below(word, Q) {
             return Err(Refusal::Symbol);
         }
-        self.lost.fill(map);
-        overwrite(&mut self.word, word);
+        self.lost.fill(map).unwrap();
+        self.word.as_mut_slice().copy_from_slice(word);
         self.report.clear();
         Ok(())
     }
 
     // Writes one symbol, and takes off that position's mark.
     pub fn put(&mut self, pos: u32, sym: u32) -> Result<(), Refusal>
-        ensures does { (numbered result, held self.new) ≡ putting (F.Field.means self.old.field) (held self.old) pos sym }
-        ensures same { self.new.field ≡ self.old.field }
+        ensures { Follows self.old self.new (numbered result) (putting (F.Field.means self.old.field) (held self.old) pos sym) }
     {
-        let Some(code) = self.code else {
-            return Err(Refusal::NoCode);
-        };
+        let code = self.coded()?;
         if pos >= code.n() {
             return Err(Refusal::Position);
         }
@@ -105,12 +98,9 @@ impl<F: Fixed<Q, M>, const Q: u32, const M: u32> Bay<F, Q, M> {
 
     // Marks one position, and keeps its symbol.
     pub fn mark(&mut self, pos: u32) -> Result<(), Refusal>
-        ensures does { (numbered result, held self.new) ≡ marking (held self.old) pos }
-        ensures same { self.new.field ≡ self.old.field }
+        ensures { Follows self.old self.new (numbered result) (marking (held self.old) pos) }
     {
-        let Some(code) = self.code else {
-            return Err(Refusal::NoCode);
-        };
+        let code = self.coded()?;
         if pos >= code.n() {
             return Err(Refusal::Position);
         }
@@ -123,44 +113,36 @@ impl<F: Fixed<Q, M>, const Q: u32, const M: u32> Bay<F, Q, M> {
 
     // Takes off all marks.
     pub fn clear(&mut self) -> Result<(), Refusal>
-        ensures does { (numbered result, held self.new) ≡ clearing (held self.old) }
-        ensures same { self.new.field ≡ self.old.field }
+        ensures { Follows self.old self.new (numbered result) (clearing (held self.old)) }
     {
-        let Some(code) = self.code else {
-            return Err(Refusal::NoCode);
-        };
+        let code = self.coded()?;
         let positions = code.n();
-        self.lost.blank(positions);
+        self.lost.blank(positions).unwrap();
         Ok(())
     }
 
     // Replaces the checks so that the word is a codeword, takes off all marks and empties the report.
     pub fn encode(&mut self) -> Result<(), Refusal>
-        ensures does { (numbered result, held self.new) ≡ encoding (F.Field.means self.old.field) (held self.old) }
+        ensures follows { Follows self.old self.new (numbered result) (encoding (F.Field.means self.old.field) (held self.old)) }
         ensures encodes { Encoded (F.Field.means self.old.field) (held self.old) (numbered result) (held self.new) }
         ensures comes_back { numbered result ≡ Ok tt → ComesBack (F.Field.means self.old.field) (held self.new) }
-        ensures same { self.new.field ≡ self.old.field }
     {
-        let Some(code) = self.code else {
-            return Err(Refusal::NoCode);
-        };
-        encode(&self.field, &code, self.word.as_mut_slice())?;
-        self.lost.blank(code.n());
+        let code = self.coded()?;
+        encode(&self.field, &code, self.word.as_mut_slice()).unwrap();
+        self.lost.blank(code.n()).unwrap();
         self.report.clear();
         Ok(())
     }
 
     // Makes the word the codeword in reach, takes off all marks and writes the report.
     pub fn correct(&mut self) -> Result<(), Refusal>
-        ensures does { (numbered result, held self.new) ≡ correcting (F.Field.means self.old.field) (held self.old) }
+        ensures follows { Follows self.old self.new (numbered result) (correcting (F.Field.means self.old.field) (held self.old)) }
         ensures refuses { Refuses (F.Field.means self.old.field) (held self.old) (numbered result) }
         ensures corrects { Corrects (F.Field.means self.old.field) (held self.old) (numbered result) (held self.new) }
-        ensures same { self.new.field ≡ self.old.field }
     {
-        let Some(code) = self.code else {
-            return Err(Refusal::NoCode);
-        };
+        let code = self.coded()?;
         let n = code.n() as usize;
+        // Arrays, since a call on a bay takes no memory.
         let mut erased = [false; POSITIONS];
         let mut word = [0; POSITIONS];
         self.repair(code, &mut erased[0..n], &mut word[0..n])
@@ -171,16 +153,16 @@ impl<F: Fixed<Q, M>, const Q: u32, const M: u32> Bay<F, Q, M> {
         requires coded { self.old.code ≡ Some code }
         requires wide { length erased.old ≡ (shape code).n }
         requires long { length word.old ≡ (shape code).n }
-        ensures does { (numbered result, held self.new) ≡ correcting (F.Field.means self.old.field) (held self.old) }
-        ensures same { self.new.field ≡ self.old.field }
+        ensures { Follows self.old self.new (numbered result) (correcting (F.Field.means self.old.field) (held self.old)) }
     {
-        self.lost.copy_to(erased);
+        self.lost.copy_to(erased).unwrap();
         word.copy_from_slice(self.word.as_slice());
         correct(&self.field, &code, erased, word)?;
         self.report
-            .describe(self.lost.count(), self.word.as_slice(), word);
-        overwrite(&mut self.word, word);
-        self.lost.blank(code.n());
+            .describe(self.lost.count(), self.word.as_slice(), word)
+            .unwrap();
+        self.word.as_mut_slice().copy_from_slice(word);
+        self.lost.blank(code.n()).unwrap();
         Ok(())
     }
 }

@@ -1,8 +1,9 @@
 -- The calls of the code, as calls to the plain bay.
-use Rattle.std.specs.Prelude.{vec_items}
+use Rattle.std.specs.Prelude.{Ok, Err, Result, vec_items}
+use Rattle.code.specs.declared.Refusal.{Refusal}
 use Rattle.code.specs.Refusals.{number}
-use Rattle.calls.specs.declared.Answer.{Answer}
-use Rattle.calls.specs.declared.Answer.TheVariants as answer
+use Rattle.calls.specs.declared.Outcome.{Outcome}
+use Rattle.calls.specs.declared.Outcome.TheVariants as outcome
 use Rattle.calls.specs.declared.Call.{Call}
 use Rattle.calls.specs.declared.Call.TheVariants as call
 use Rattle.calls.specs.declared.Line.{Line}
@@ -21,11 +22,11 @@ asked (call.Read buf) = read (vec_items buf)
 asked (call.Report buf) = report (vec_items buf)
 asked (call.Message buf) = message (vec_items buf)
 
-abbrev pub said : Answer → Said
-said answer.Done = yes
-said (answer.No e) = no (number e)
-said (answer.Root t) = root t
-said (answer.Part start len) = part start len
+abbrev pub said : Result Outcome Refusal → Said
+said (Ok outcome.Done) = yes
+said (Ok (outcome.Root t)) = root t
+said (Ok (outcome.Part start len)) = part start len
+said (Err e) = no (number e)
 
 -- a line after its call was made
 abbrev pub told : Line → Told

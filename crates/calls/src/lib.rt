@@ -5,7 +5,7 @@
 ghost use Rattle.std.specs.Prelude.{◌≡◌, map, MatchResult};
 ghost use Rattle.code.specs.Refusals.{numbered};
 ghost use Rattle.bay.specs.Plain.{empty, testing, placing};
-ghost use Rattle.bay.specs.Held.{held};
+ghost use Rattle.bay.specs.Held.{held, Follows};
 ghost use Rattle.calls.specs.Steps.{plainly, rooted, placed, step, runs, Composes};
 ghost use Rattle.calls.specs.Runs.{asked, said, told};
 
@@ -30,14 +30,16 @@ pub enum Call {
     Message(Vec<u32>),
 }
 
-// What a call answers. A part of a buffer is answered by its start and its length.
-#[derive(Clone, Copy)]
-pub enum Answer {
+// What an accepted call answers. A part of a buffer is answered by its start and its length.
+#[derive(Clone, Copy, Debug, PartialEq, Eq)]
+pub enum Outcome {
     Done,
-    No(Refusal),
     Root(Option<u32>),
-    Part(usize, usize),
+    Part { start: usize, length: usize },
 }
+
+// What a call answers: what it was accepted with, or why it was refused.
+pub type Answer = Result<Outcome, Refusal>;
 
 // A call, and where its answer goes.
 #[derive(Drop)]
@@ -46,22 +48,17 @@ pub struct Line {
     pub answer: Answer,
 }
 
-fn answered(r: Result<(), Refusal>) -> Answer
-    ensures { said result ≡ plainly (numbered r) }
+// The answer of a call that has nothing to tell.
+fn answered(res: Result<(), Refusal>) -> Answer
+    ensures { said result ≡ plainly (numbered res) }
 {
-    match r {
-        Ok(()) => Answer::Done,
-        Err(e) => Answer::No(e),
-    }
+    res.map(|()| Outcome::Done)
 }
 
 fn ask_test<F: Fixed<Q, M>, const Q: u32, const M: u32>(bay: &Bay<F, Q, M>) -> Answer
     ensures { said result ≡ rooted (testing (F.Field.means bay.now.field) (held bay.now)) }
 {
-    match bay.test() {
-        Ok(root) => Answer::Root(root),
-        Err(e) => Answer::No(e),
-    }
+    bay.test().map(Outcome::Root)
 }
 
 fn ask_message<F: Fixed<Q, M>, const Q: u32, const M: u32>(
@@ -70,16 +67,14 @@ fn ask_message<F: Fixed<Q, M>, const Q: u32, const M: u32>(
 ) -> Answer
     ensures { said result ≡ placed (placing (held bay.now) buf.now) }
 {
-    match bay.message(buf) {
-        Ok(part) => Answer::Part(bay.checks() as usize, part.len()),
-        Err(e) => Answer::No(e),
-    }
+    let start = bay.checks() as usize;
+    let length = bay.message(buf)?.len();
+    Ok(Outcome::Part { start, length })
 }
 
 // Makes the call of a line, and puts the answer there.
 pub fn perform<F: Fixed<Q, M>, const Q: u32, const M: u32>(bay: &mut Bay<F, Q, M>, line: &mut Line)
-    ensures does { (told line.new, held bay.new) ≡ step (F.Field.means bay.old.field) (held bay.old) (asked line.old.call) }
-    ensures same { bay.new.field ≡ bay.old.field }
+    ensures { Follows bay.old bay.new (told line.new) (step (F.Field.means bay.old.field) (held bay.old) (asked line.old.call)) }
 {
     line.answer = match &mut line.call {
         Call::Make(n, r, b) => answered(bay.make(*n, *r, *b)),
@@ -98,8 +93,7 @@ pub fn perform<F: Fixed<Q, M>, const Q: u32, const M: u32>(bay: &mut Bay<F, Q, M
 
 // Makes the calls, one after another. To make some and then others is to make them all.
 pub fn run<F: Fixed<Q, M>, const Q: u32, const M: u32>(bay: &mut Bay<F, Q, M>, lines: &mut [Line])
-    ensures does { (map told lines.new, held bay.new) ≡ runs (F.Field.means bay.old.field) (held bay.old) (map (λ l. asked l.call) lines.old) }
-    ensures same { bay.new.field ≡ bay.old.field }
+    ensures follows { Follows bay.old bay.new (map told lines.new) (runs (F.Field.means bay.old.field) (held bay.old) (map (λ l. asked l.call) lines.old)) }
     ensures composes { Composes }
 {
     for line in lines.iter_mut() {

@@ -3,7 +3,7 @@ ghost use Rattle.f16.specs.Sixteen.{sixteen};
 ghost use Rattle.capi.specs.Status.{answer};
 ghost use Rattle.capi.specs.Outcomes.{Encoded, Tested, Restored};
 
-use crate::words::{correct_word, encode_word, test_word};
+use crate::words::{correct_word, encode_word, status, test_word};
 use f16::F16;
 
 // Replaces the checks of a word, so that it is the codeword with its message.
@@ -16,7 +16,7 @@ pub extern "C" fn softballbay_control_encode(
 ) -> u32
     ensures { Encoded sixteen n checks first word.old (answer result) word.new }
 {
-    encode_word(&F16 {}, n, checks, first, word)
+    status(encode_word(&F16 {}, n, checks, first, word))
 }
 
 // Tells in two places whether a root of a word fails, and which is the lowest.
@@ -30,7 +30,7 @@ pub extern "C" fn softballbay_control_test(
 ) -> u32
     ensures { Tested sixteen n checks first word.now failing.old (answer result) failing.new }
 {
-    test_word(&F16 {}, n, checks, first, word, failing)
+    status(test_word(&F16 {}, n, checks, first, word, failing))
 }
 
 // Makes a word the codeword in reach, where the map marks the positions that are not relied on.
@@ -44,5 +44,5 @@ pub extern "C" fn softballbay_control_correct(
 ) -> u32
     ensures { Restored sixteen n checks first word.old map.now (answer result) word.new }
 {
-    correct_word(&F16 {}, n, checks, first, word, map)
+    status(correct_word(&F16 {}, n, checks, first, word, map))
 }

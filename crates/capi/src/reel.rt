@@ -3,7 +3,7 @@ ghost use Rattle.f256.specs.Bytes.{bytes};
 ghost use Rattle.capi.specs.Status.{answer};
 ghost use Rattle.capi.specs.Outcomes.{Encoded, Tested, Restored};
 
-use crate::words::{correct_word, encode_word, test_word};
+use crate::words::{correct_word, encode_word, status, test_word};
 use f256::F256;
 
 // Replaces the checks of a word, so that it is the codeword with its message.
@@ -11,7 +11,7 @@ use f256::F256;
 pub extern "C" fn softballbay_reel_encode(n: u32, checks: u32, first: u32, word: &mut [u32]) -> u32
     ensures { Encoded bytes n checks first word.old (answer result) word.new }
 {
-    encode_word(&F256 {}, n, checks, first, word)
+    status(encode_word(&F256 {}, n, checks, first, word))
 }
 
 // Tells in two places whether a root of a word fails, and which is the lowest.
@@ -25,7 +25,7 @@ pub extern "C" fn softballbay_reel_test(
 ) -> u32
     ensures { Tested bytes n checks first word.now failing.old (answer result) failing.new }
 {
-    test_word(&F256 {}, n, checks, first, word, failing)
+    status(test_word(&F256 {}, n, checks, first, word, failing))
 }
 
 // Makes a word the codeword in reach, where the map marks the positions that are not relied on.
@@ -39,5 +39,5 @@ pub extern "C" fn softballbay_reel_correct(
 ) -> u32
     ensures { Restored bytes n checks first word.old map.now (answer result) word.new }
 {
-    correct_word(&F256 {}, n, checks, first, word, map)
+    status(correct_word(&F256 {}, n, checks, first, word, map))
 }

@@ -21,7 +21,7 @@ const ROOT_PLACES: usize = 2;
 const ACCEPTED: u32 = 0;
 
 // The status of an answer: 0, or the number of the refusal.
-fn status(res: Result<(), Refusal>) -> u32
+pub(crate) fn status(res: Result<(), Refusal>) -> u32
     ensures { answer result ≡ numbered res }
 {
     match res {
@@ -37,16 +37,14 @@ pub(crate) fn encode_word<F: Fixed<Q, M>, const Q: u32, const M: u32>(
     checks: u32,
     first: u32,
     word: &mut [u32],
-) -> u32
-    ensures { Encoded (F.Field.means field.now) n checks first word.old (answer result) word.new }
+) -> Result<(), Refusal>
+    ensures { Encoded (F.Field.means field.now) n checks first word.old (numbered result) word.new }
 {
-    match Code::new(n, checks, first) {
-        Ok(code) => status(encode(field, &code, word)),
-        Err(why) => status(Err(why)),
-    }
+    let code = Code::new(n, checks, first)?;
+    encode(field, &code, word)
 }
 
-// Tells of a failing root in the first two places.
+// Tells of a failing root in the first two places. C has no Option: the first place tells whether there is a root.
 fn tell(root: Option<u32>, failing: &mut [u32]) -> Result<(), Refusal>
     ensures rows { numbered result ≡ roomy failing.old }
     ensures tells { result ≡ Ok tt → failing.new ≡ told root failing.old }
@@ -55,16 +53,8 @@ fn tell(root: Option<u32>, failing: &mut [u32]) -> Result<(), Refusal>
     if failing.len() < ROOT_PLACES {
         return Err(Refusal::Buffer);
     }
-    match root {
-        Some(j) => {
-            failing[0] = 1;
-            failing[1] = j;
-        }
-        None => {
-            failing[0] = 0;
-            failing[1] = 0;
-        }
-    }
+    failing[0] = u32::from(root.is_some());
+    failing[1] = root.unwrap_or(0);
     Ok(())
 }
 
@@ -76,16 +66,12 @@ pub(crate) fn test_word<F: Fixed<Q, M>, const Q: u32, const M: u32>(
     first: u32,
     word: &[u32],
     failing: &mut [u32],
-) -> u32
-    ensures { Tested (F.Field.means field.now) n checks first word.now failing.old (answer result) failing.new }
+) -> Result<(), Refusal>
+    ensures { Tested (F.Field.means field.now) n checks first word.now failing.old (numbered result) failing.new }
 {
-    match Code::new(n, checks, first) {
-        Ok(code) => match first_failing_root(field, &code, word) {
-            Ok(root) => status(tell(root, failing)),
-            Err(why) => status(Err(why)),
-        },
-        Err(why) => status(Err(why)),
-    }
+    let code = Code::new(n, checks, first)?;
+    let root = first_failing_root(field, &code, word)?;
+    tell(root, failing)
 }
 
 // Corrects a word in place, by the three numbers of its code and the map of its erasures.
@@ -97,19 +83,14 @@ pub(crate) fn correct_word<F: Fixed<Q, M>, const Q: u32, const M: u32>(
     first: u32,
     word: &mut [u32],
     map: &[u8],
-) -> u32
-    ensures { Restored (F.Field.means field.now) n checks first word.old map.now (answer result) word.new }
+) -> Result<(), Refusal>
+    ensures { Restored (F.Field.means field.now) n checks first word.old map.now (numbered result) word.new }
 {
-    match Code::new(n, checks, first) {
-        Ok(code) => {
-            let mut room = [false; POSITIONS];
-            let erased = &mut room[0..n as usize];
-            if spread(map, erased) {
-                status(correct(field, &code, erased, word))
-            } else {
-                status(correct(field, &code, &[], word))
-            }
-        }
-        Err(why) => status(Err(why)),
+    let code = Code::new(n, checks, first)?;
+    let mut room = [false; POSITIONS];
+    let erased = &mut room[0..n as usize];
+    match spread(map, erased) {
+        Ok(()) => correct(field, &code, erased, word),
+        Err(_) => correct(field, &code, &[], word),
     }
 }

@@ -15,21 +15,21 @@ pub use over::FieldCode;
 // Why a call was turned down, in the order of the rows: of several that hold, the topmost is given.
 #[derive(Clone, Copy, Debug, PartialEq, Eq)]
 pub enum Refusal {
-    Positions,
-    Checks,
-    PastTurn,
-    FirstRoot,
-    NoCode,
-    HasCode,
-    Count,
-    Map,
-    Position,
-    Symbol,
-    Marked,
-    OutOfReach,
-    Buffer,
-    Terms,
-    Order,
+    Positions = 1,
+    Checks = 2,
+    PastTurn = 3,
+    FirstRoot = 4,
+    NoCode = 5,
+    HasCode = 6,
+    Count = 7,
+    Map = 8,
+    Position = 9,
+    Symbol = 10,
+    Marked = 11,
+    OutOfReach = 12,
+    Buffer = 13,
+    Terms = 14,
+    Order = 15,
 }
 
 // n positions, of which the first `checks` are the checks and the rest the message, and a first root.

@@ -1,29 +1,24 @@
-ghost use Rattle.std.specs.Prelude.{◌≡◌};
+ghost use Rattle.std.specs.Prelude.{◌≡◌, Some, decimal};
 ghost use Rattle.code.specs.Refusals.{number as numbering};
 
 use super::Refusal;
+use std::fmt;
 
 impl Refusal {
     // The number of the row.
     pub fn number(&self) -> u32
         ensures { result ≡ numbering self.now }
     {
-        match self {
-            Refusal::Positions => 1,
-            Refusal::Checks => 2,
-            Refusal::PastTurn => 3,
-            Refusal::FirstRoot => 4,
-            Refusal::NoCode => 5,
-            Refusal::HasCode => 6,
-            Refusal::Count => 7,
-            Refusal::Map => 8,
-            Refusal::Position => 9,
-            Refusal::Symbol => 10,
-            Refusal::Marked => 11,
-            Refusal::OutOfReach => 12,
-            Refusal::Buffer => 13,
-            Refusal::Terms => 14,
-            Refusal::Order => 15,
-        }
+        *self as u32
+    }
+}
+
+// The number of the row in digits.
+impl fmt::Display for Refusal {
+    ghost output = { λ refusal. Some (decimal (numbering refusal)) };
+
+    fn fmt<W: fmt::Write>(&self, f: &mut fmt::Formatter<W>) -> fmt::Result {
+        let number = self.number();
+        write!(f, "{number}")
     }
 }

@@ -16,7 +16,7 @@ says_letter (c ∷ []) ns one short none = record { text = []; whole = refl; spe
 says_letter (c ∷ d ∷ ds) ns one short none = absurd (omega arith)
 
 -- a letter, a space and the rest
-abbrev rest : List ℕ → List ℕ
+abbrev pub rest : List ℕ → List ℕ
 rest line = take (length line - 2) (drop 2 line)
 
 parts : (line : List ℕ) → 2 ≤ length line → get_or line 1 0 ≡ 32 → line ≡ get_or line 0 0 ∷ 32 ∷ rest line

@@ -1,9 +1,9 @@
 -- The bytes of an answer line.
-use Rattle.std.specs.Prelude.{ℕ, List, [], ◌∷◌, ◌++◌, codes, decimal}
+use Rattle.std.specs.Prelude.{ℕ, List, [], ◌∷◌, ◌++◌, codes, decimal, Ok, Err, Result}
+use Rattle.std.specs.Borrow.{Bor}
 use Rattle.std.specs.List.{flat_map}
 use Rattle.code.specs.Refusals.{number}
-use Rattle.text.specs.declared.answer.Reply.{Reply}
-use Rattle.text.specs.declared.answer.Reply.TheVariants.{Accepted, Refused}
+use Rattle.code.specs.declared.Refusal.{Refusal}
 
 -- one space, and the number in decimals
 abbrev pub spaced : ℕ → List ℕ
@@ -21,12 +21,7 @@ accepting numbers = (codes "ok" ++ flat_map spaced numbers) ++ 10 ∷ []
 abbrev pub refusing : ℕ → List ℕ
 refusing k = (codes "no" ++ spaced k) ++ 10 ∷ []
 
--- the words of a reply, without the byte that ends the line
-abbrev pub words : Reply → List ℕ
-words (Accepted numbers) = codes "ok" ++ flat_map spaced numbers.now
-words (Refused why) = codes "no" ++ spaced (number why)
-
--- the line for a reply
-abbrev pub answer : Reply → List ℕ
-answer (Accepted numbers) = accepting numbers.now
-answer (Refused why) = refusing (number why)
+-- the line for a reply: a call was accepted, with the numbers answered, or refused
+abbrev pub answer : Result (Bor (List ℕ)) Refusal → List ℕ
+answer (Ok numbers) = accepting numbers.now
+answer (Err why) = refusing (number why)

@@ -56,19 +56,13 @@ pub fn read_line(heap: Global, line: &[u8]) -> Result<Option<Sentence>, AllocErr
     match line {
         [letter] => {
             let numbers = Vec::new(heap);
-            Ok(Some(Sentence {
-                letter: *letter,
-                numbers,
-            }))
+            let letter = *letter;
+            Ok(Some(Sentence { letter, numbers }))
         }
         [letter, b' ', rest @ ..] => {
-            let Some(numbers) = read_numbers(heap, rest)? else {
-                return Ok(None);
-            };
-            Ok(Some(Sentence {
-                letter: *letter,
-                numbers,
-            }))
+            let found = read_numbers(heap, rest)?;
+            let letter = *letter;
+            Ok(found.map(|numbers| Sentence { letter, numbers }))
         }
         _ => Ok(None),
     }

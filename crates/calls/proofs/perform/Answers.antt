@@ -29,12 +29,12 @@ returns g c = let p = held c.args.bay.now in elim c.match-line.branch [
     same = simp w.bay-is w.clear.ensures.same;
   }
   | goal.in-Encode w ↦ record {
-    does = simp (w.line-is, w.line2-is, w.bay-is, w.in-Encode.is, w.answered-line-in-Encode.ensures) (ap (changing encode) w.encode.ensures.does);
-    same = simp w.bay-is w.encode.ensures.same;
+    does = simp (w.line-is, w.line2-is, w.bay-is, w.in-Encode.is, w.answered-line-in-Encode.ensures) (ap (changing encode) w.encode.ensures.follows.does);
+    same = simp w.bay-is w.encode.ensures.follows.same;
   }
   | goal.in-Correct w ↦ record {
-    does = simp (w.line-is, w.line2-is, w.bay-is, w.in-Correct.is, w.answered-line-in-Correct.ensures) (ap (changing correct) w.correct.ensures.does);
-    same = simp w.bay-is w.correct.ensures.same;
+    does = simp (w.line-is, w.line2-is, w.bay-is, w.in-Correct.is, w.answered-line-in-Correct.ensures) (ap (changing correct) w.correct.ensures.follows.does);
+    same = simp w.bay-is w.correct.ensures.follows.same;
   }
   | goal.in-Test w ↦ record {
     does = simp (w.line-is, w.line2-is, w.bay-is, w.in-Test.is) (ap (asking test p) w.ask_test-line.ensures);

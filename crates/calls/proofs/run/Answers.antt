@@ -21,7 +21,6 @@ pub returns : goal.returns
 returns g c =
     let h : length c.loop-line.lines ≤ c.loop-line.line-index = omega arith in
     record {
-      does = sym (whole_all _ _ (step (g.F.Field.means c.args.bay.now.field)) _ _ _ h) ∙ c.loop-line.invariant.1;
-      same = c.loop-line.invariant.0;
+      follows = record { does = sym (whole_all _ _ (step (g.F.Field.means c.args.bay.now.field)) _ _ _ h) ∙ c.loop-line.invariant.1; same = c.loop-line.invariant.0 };
       composes = λ f p xs ys. through_append (step f) p xs ys;
     }

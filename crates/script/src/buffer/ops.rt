@@ -3,16 +3,14 @@ ghost use Rattle.script.specs.Kept.{kept};
 
 use super::LineBuffer;
 use std::alloc::{AllocError, Global};
+use text::line::LONGEST_LINE;
 
 impl LineBuffer {
-    // The most bytes that a line may have, before its end.
-    pub const LONGEST: usize = 6000;
-
     // Room for a line, with nothing in it.
     pub fn new(heap: Global) -> Result<LineBuffer, AllocError>
         ensures { IfOk result (λ b. kept b ≡ []) }
     {
-        let bytes = Vec::with_capacity(heap, LineBuffer::LONGEST + 1)?;
+        let bytes = Vec::with_capacity(heap, LONGEST_LINE + 1)?;
         Ok(LineBuffer { bytes })
     }
 
@@ -20,7 +18,7 @@ impl LineBuffer {
     pub fn add(&mut self, byte: u8)
         ensures { kept self.new ≡ take 6001 (kept self.old ++ (byte ∷ [])) }
     {
-        if self.bytes.len() <= LineBuffer::LONGEST {
+        if self.bytes.len() <= LONGEST_LINE {
             self.bytes.push_reserved(byte);
         }
     }
@@ -36,7 +34,7 @@ impl LineBuffer {
     pub fn is_over(&self) -> bool
         ensures { result ≡ nat_lt 6000 (length (kept self.now)) }
     {
-        self.bytes.len() > LineBuffer::LONGEST
+        self.bytes.len() > LONGEST_LINE
     }
 
     // What is kept of the line.

@@ -48,8 +48,8 @@ returns g c =
       replies = IfOk-weaker c.reply.result _ _
           (λ s e. R.asking f p line c.read_line.ensures.only said.letter (vec_items said.numbers) says
           (asked c.in-Some-2.call) (sym (ap sought c.in-Some-2.is) ∙ c.in_ok-call.ensures)
-          (told c.in_ok-line.line) (held c.run_one.new.bay) c.in_ok-line.ensures.does
+          (told c.run_one-line.result) (held c.run_one-line.new.bay) c.run_one-line.ensures.does
           c.positions.result c.positions.ensures (string_bytes s) e)
           c.reply.ensures;
-      same = c.run_one.ensures.same;
+      same = c.run_one-line.ensures.same;
     }

@@ -1,7 +1,0 @@
-use Rattle.std.proofs.Common.{ℕ, List, ap, ◌∙◌, rules}
-use Rattle.calls.specs.Steps.{report}
-use Rattle.script.specs.Requests.{with_none}
-use Rattle.script.proofs.request.report.Goals as goal
-
-pub returns : goal.returns
-returns c = let h = c.in_ok-buffer.ensures.items_if_clones_equal in c.alone.ensures ∙ ap (λ (l : List ℕ). with_none (report l) c.args.numbers.now) (search rules)
