@@ -6,10 +6,12 @@ use Rattle.std.proofs.lemmas.List.{get_or_append_left}
 use Rattle.field.specs.Meaning.{Meaning, Laws}
 use Rattle.field.specs.Symbols.{Within}
 use Rattle.field.specs.Lifted.{lift, poly, sym_of}
+use Rattle.field.proofs.Symbols.{within_from}
 use Rattle.field.proofs.Parts.{put_high}
 use Rattle.field.proofs.Writing.{Written, written_more}
 use Rattle.field.proofs.Lifting as B
 use Rattle.algebra.proofs.Division as D
+use Rattle.code.specs.Words.{Word}
 use Rattle.encoder.specs.Register.{Turned}
 
 -- what stands in the place below i, and 0 below all places
@@ -67,6 +69,9 @@ turned_part f c k n g ys e hn long cut t = record {
 
 module _ (f : Meaning) (l : Laws f) where
   -- rows of symbols stay rows of symbols
+  pub word_in : (q n : ℕ) (w : List ℕ) → f.q ≡ q → Word q n w → Within f.q w
+  word_in q n w size h = within_from f.q w (omega (arith, l.q_low)) (rw size h.symbols)
+
   pub take_in : (n : ℕ) (xs : List ℕ) → Within f.q xs → Within f.q (take n xs)
   take_in zero xs h i = omega (arith, l.q_low)
   take_in (suc n) [] h i = omega (arith, l.q_low)

@@ -4,13 +4,13 @@
 // And syndromes, the check sums of a word all at once, from what a division by the generator polynomial leaves.
 #![tactic(auto)]
 
-ghost use Rattle.std.specs.Prelude.{◌≡◌, ◌-◌, ◌<◌, ◌≤◌, true, length, None, Ok, MatchResult, OnErr, nat_eq};
+ghost use Rattle.std.specs.Prelude.{◌≡◌, ◌-◌, ◌<◌, ◌≤◌, length, None, Ok, MatchResult, OnErr, nat_eq};
 ghost use Rattle.std.specs.List.{list_all};
-ghost use Rattle.field.specs.Symbols.{all_below, Within};
+ghost use Rattle.field.specs.Symbols.{Within};
 ghost use Rattle.code.specs.Shape.{shape};
 ghost use Rattle.code.specs.Refusals.{numbered};
 ghost use Rattle.code.specs.Fitting.{fitting};
-ghost use Rattle.code.specs.Words.{failing_root, codeword};
+ghost use Rattle.code.specs.Words.{Word, codeword, failing_root};
 ghost use Rattle.encoder.specs.Encodes.{Encodes};
 ghost use Rattle.encoder.specs.Syndromes.{Summed, summing};
 ghost use Rattle.encoder.specs.Register.{Turned, Generates, Divided, Evaluated};
@@ -38,6 +38,7 @@ fn turn<F: Field>(field: &F, c: u32, from: &[u32], to: &mut [u32])
     ensures { Turned (F.Field.means field.now) c (length to.old - 1) from.now to.old to.new }
 {
     let mut below = 0;
+    // Not by `zip`, after which a proof knows nothing of what was written.
     for (i, x) in to.iter_mut().enumerate() {
         let here = *x;
         *x = field.sum(below, field.product(c, from[i]));
@@ -46,7 +47,8 @@ fn turn<F: Field>(field: &F, c: u32, from: &[u32], to: &mut [u32])
 }
 
 // g := (x + c) · g, as far as `g` goes.
-// Not `turn`, which reads its other row while it writes: here both are one, and a closure for what is read would be longer.
+// Beside `turn`, since a row that is written can't be lent to be read as well: one function of both would take a closure, under a
+// contract longer than this.
 fn multiply<F: Field>(field: &F, c: u32, g: &mut [u32])
     requires some { 0 < length g.old }
     requires factor { c < (F.Field.means field.now).q }
@@ -103,8 +105,7 @@ fn lay_checks<F: Fixed<Q, M>, const Q: u32, const M: u32>(
     over: &FieldCode<F, Q, M>,
     word: &mut [u32],
 )
-    requires long { length word.old ≡ (shape over.now.code).n }
-    requires symbols { all_below Q word.old ≡ true }
+    requires { Word Q (shape over.now.code).n word.old }
     ensures { Encodes (F.Field.means over.now.field.now) (shape over.now.code) word.old word.new }
 {
     let field = over.field;
@@ -166,8 +167,7 @@ fn write_syndromes<F: Fixed<Q, M>, const Q: u32, const M: u32>(
     points: &mut [u32],
     out: &mut [u32],
 ) -> bool
-    requires long { length word.now ≡ (shape over.now.code).n }
-    requires symbols { all_below Q word.now ≡ true }
+    requires word { Word Q (shape over.now.code).n word.now }
     requires room { length room.old ≡ (shape over.now.code).n }
     requires points { length points.old ≡ (shape over.now.code).checks }
     requires written { length out.old ≡ (shape over.now.code).checks }

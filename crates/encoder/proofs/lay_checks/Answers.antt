@@ -1,14 +1,13 @@
-use Rattle.std.proofs.Common.{◌≡◌, suc, ◌-◌, ◌<◌, true, ◌++◌, length, get_or, drop, replicate, sym, ap, ◌∙◌, subst, arith, rules}
+use Rattle.std.proofs.Common.{◌≡◌, suc, ◌-◌, ◌<◌, ◌++◌, length, get_or, drop, replicate, sym, ap, ◌∙◌, subst, arith, rules}
 use Rattle.std.proofs.lemmas.List.{length_push, length-reverse}
 use Rattle.std.proofs.lemmas.Iterator.Adapters.{YieldsList-from_rev_slice}
 use Rattle.std.proofs.lemmas.Iterator.Consumers.{YieldsList-turn, YieldsList-end}
-use Rattle.field.specs.Symbols.{Within, all_below}
-use Rattle.field.proofs.Symbols.{within_from}
+use Rattle.field.specs.Symbols.{Within}
 use Rattle.code.specs.Shape.{shape}
 use Rattle.code.specs.Words.{Word}
 use Rattle.encoder.specs.Encodes.{Encodes}
 use Rattle.encoder.specs.Register.{Turned, Generates}
-use Rattle.encoder.proofs.Turns.{zeros_at, drop_in}
+use Rattle.encoder.proofs.Turns.{zeros_at, word_in, drop_in}
 use Rattle.encoder.proofs.Holding.{Holding, holding_start, holding_more, from_end, fed_back}
 use Rattle.encoder.proofs.Encoding.{encodes}
 use Rattle.encoder.proofs.lay_checks.Goals as goal
@@ -30,8 +29,7 @@ turn-requires g c =
     let code = shape c.args.over.now.code in
     let w = c.args.word.now in
     let m = drop code.checks w in
-    let size : f.q ≡ g.row.Q = g.met.F.Fixed.size c.args.over.now.field.now in
-    let w_in : Within f.q w = within_from f.q w (omega (arith, l.q_low)) (subst (λ q. all_below q w ≡ true) (sym size) c.requires.symbols) in
+    let w_in : Within f.q w = word_in f l _ code.n w (g.met.F.Fixed.size c.args.over.now.field.now) c.requires in
     let t = YieldsList-turn (YieldsList-from_rev_slice m cc) c.loop-x.yielded _ c.loop-x.yielded_by _ _ c.in-Some.x c.in-Some.is c.next.ensures.steps in
     let x_is = (from_end m _ _ t.0 t.1).1 in
     let x_in : c.in-Some.x.now < f.q = rw x_is (drop_in f l code.checks w w_in _) in
@@ -57,8 +55,7 @@ loop-x-preserved g c =
     let i = length m - 1 - n in
     let old = c.loop-x.register in
     let new = c.turn.new.to in
-    let size : f.q ≡ g.row.Q = g.met.F.Fixed.size c.args.over.now.field.now in
-    let w_in : Within f.q w = within_from f.q w (omega (arith, l.q_low)) (subst (λ q. all_below q w ≡ true) (sym size) c.requires.symbols) in
+    let w_in : Within f.q w = word_in f l _ code.n w (g.met.F.Fixed.size c.args.over.now.field.now) c.requires in
     let m_in = drop_in f l code.checks w w_in in
     let t = YieldsList-turn (YieldsList-from_rev_slice m cc) c.loop-x.yielded _ c.loop-x.yielded_by _ _ c.in-Some.x c.in-Some.is c.next.ensures.steps in
     let p = from_end m _ _ t.0 t.1 in
@@ -85,7 +82,7 @@ returns g c =
     let m = drop code.checks w in
     let size : f.q ≡ g.row.Q = g.met.F.Fixed.size c.args.over.now.field.now in
     let turn : f.m ≡ g.row.M = g.met.F.Fixed.turn c.args.over.now.field.now in
-    let word : Word f.q code.n w = record { long = c.requires.long; symbols = subst (λ q. all_below q w ≡ true) (sym size) c.requires.symbols } in
+    let word : Word f.q code.n w = subst (λ q. Word q code.n w) (sym size) c.requires in
     let fits = c.args.over.now.fits in
     let t = (YieldsList-end (YieldsList-from_rev_slice m cc) c.loop-x.yielded _ c.loop-x.yielded_by _ _ c.in-None.is c.next.ensures.steps).1 in
     let rest : c.split_at_mut-register.result.1.now ≡ m = c.split_at_mut-register.ensures.back ∙ ap (λ k. drop k w) c.checks-checks.ensures in

@@ -1,9 +1,8 @@
-use Rattle.std.proofs.Common.{◌≡◌, ℕ, ◌-◌, true, length, get_or, replicate, take, sym, ap, ◌∙◌, subst, arith, rules}
-use Rattle.field.specs.Symbols.{all_below, Within}
-use Rattle.field.proofs.Symbols.{within_from}
+use Rattle.std.proofs.Common.{◌≡◌, ℕ, ◌-◌, length, get_or, replicate, take, sym, ap, ◌∙◌, subst, arith, rules}
+use Rattle.field.specs.Symbols.{Within}
 use Rattle.code.specs.Shape.{shape}
 use Rattle.encoder.specs.Register.{Divided}
-use Rattle.encoder.proofs.Turns.{zeros_at, take_in}
+use Rattle.encoder.proofs.Turns.{zeros_at, word_in, take_in}
 use Rattle.encoder.proofs.Summing.{zero_values, zeros_pass, values_pass, values_sums}
 use Rattle.encoder.proofs.write_syndromes.Goals as goal
 
@@ -11,9 +10,8 @@ pub divide-requires : goal.divide-requires
 divide-requires g c =
     let f = g.F.Field.means c.args.over.now.field.now in
     let l = g.met.F.Field.lawful c.args.over.now.field.now in
-    let size : f.q ≡ g.row.Q = g.met.F.Fixed.size c.args.over.now.field.now in
     let w = c.args.word.now in
-    let w_in : Within f.q w = within_from f.q w (omega (arith, l.q_low)) (subst (λ q. all_below q w ≡ true) (sym size) c.requires.symbols) in
+    let w_in : Within f.q w = word_in f l _ _ w (g.met.F.Fixed.size c.args.over.now.field.now) c.requires.word in
     (omega arith, (c.generator.ensures, (omega arith, rw c.copy_from_slice.ensures.after w_in)))
 
 pub returns-then-is_zero : goal.returns-then-is_zero
