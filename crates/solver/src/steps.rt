@@ -103,6 +103,7 @@ impl Basis {
     {
         let (x, y) = self.discrepancies(congruence, k);
         let field = congruence.field;
+        // An arm for each side, since the check does not cover a choice between the two `&mut`.
         match congruence.order.lower(self.left.top, self.right.top) {
             Side::Left => {
                 step(field, &mut self.left, &mut self.right, x, y);
