@@ -19,16 +19,9 @@ impl Order {
         requires { (negsuc 510 ≤ℤ r) × (r ≤ℤ pos 511) }
         ensures { pos result.plus ≡ r +ℤ pos result.minus }
     {
-        if r >= 0 {
-            Order {
-                plus: r as usize,
-                minus: 0,
-            }
-        } else {
-            Order {
-                plus: 0,
-                minus: (-r) as usize,
-            }
+        Order {
+            plus: r.max(0) as usize,
+            minus: (-r).max(0) as usize,
         }
     }
 

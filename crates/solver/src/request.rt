@@ -33,10 +33,10 @@ pub(crate) fn check(
     if left <= terms || right <= terms {
         return Err(Refusal::Buffer);
     }
-    if n == 0 || n > MOST_TERMS {
+    if !(1..=MOST_TERMS).contains(&n) {
         return Err(Refusal::Terms);
     }
-    if r < -WIDEST_ORDER || r > WIDEST_ORDER {
+    if !(-WIDEST_ORDER..=WIDEST_ORDER).contains(&r) {
         return Err(Refusal::Order);
     }
     Ok(())

@@ -103,6 +103,7 @@ impl Basis {
     {
         let (x, y) = self.discrepancies(congruence, k);
         let field = congruence.field;
+        // An arm for each side, since the check does not cover a choice between the two `&mut`.
         match congruence.order.lower(self.left.top, self.right.top) {
             Side::Left => {
                 step(field, &mut self.left, &mut self.right, x, y);
@@ -122,6 +123,16 @@ impl Basis {
             }
         }
     }
+
+    // As many turns as g has symbols.
+    fn run<F: Field>(&mut self, congruence: &Congruence<F>)
+        requires { Reached (F.Field.means congruence.now.field.now) congruence.now.g.now congruence.now.order.plus congruence.now.order.minus 0 self.old }
+        ensures { Reached (F.Field.means congruence.now.field.now) congruence.now.g.now congruence.now.order.plus congruence.now.order.minus (length congruence.now.g.now) self.new }
+    {
+        for k in 0..congruence.g.len() {
+            self.turn(congruence, k);
+        }
+    }
 }
 
 impl<'a, F: Field> Congruence<'a, F> {
@@ -135,23 +146,13 @@ impl<'a, F: Field> Congruence<'a, F> {
         self.field.sum(pair.left[k], self.field.opposite(product))
     }
 
-    // The pairs after as many steps as g has symbols.
-    fn basis(&self) -> Basis
-        ensures { Reached (F.Field.means self.now.field.now) self.now.g.now self.now.order.plus self.now.order.minus (length self.now.g.now) result }
-    {
-        let mut basis = Basis::first();
-        for k in 0..self.g.len() {
-            basis.turn(self, k);
-        }
-        basis
-    }
-
     // The least pair: the lower of the two after the last step, divided by its leading coefficient.
     pub(crate) fn least_pair(&self, left: &mut [u32], right: &mut [u32]) -> LeastPair
         requires room { (length self.now.g.now < length left.old) × (length self.now.g.now < length right.old) }
         ensures { (r : ℤ) → pos self.now.order.plus ≡ r +ℤ pos self.now.order.minus → Solved (F.Field.means self.now.field.now) self.now.g.now (length self.now.g.now) r left.old right.old left.new right.new result }
     {
-        let basis = self.basis();
+        let mut basis = Basis::first();
+        basis.run(self);
         let side = self.order.lower(basis.left.top, basis.right.top);
         let size = self.g.len() + 1;
         basis
