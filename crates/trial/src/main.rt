@@ -57,12 +57,12 @@ struct Tallies {
 impl Tallies {
     fn new(heap: Global) -> Tallies {
         Tallies {
-            questions: Tally::new(heap, "questions to a field"),
-            sums: Tally::new(heap, "check sums and tests"),
-            encoding: Tally::new(heap, "words encoded"),
-            solving: Tally::new(heap, "least pairs"),
-            correcting: Tally::new(heap, "words corrected"),
-            seeking: Tally::new(heap, "words corrected, beside a search among all words"),
+            questions: Tally::new(heap),
+            sums: Tally::new(heap),
+            encoding: Tally::new(heap),
+            solving: Tally::new(heap),
+            correcting: Tally::new(heap),
+            seeking: Tally::new(heap),
         }
     }
 }
@@ -77,9 +77,14 @@ impl fmt::Display for Tallies {
             correcting,
             seeking,
         } = self;
+        write!(f, "questions to a field: {questions}\n")?;
+        write!(f, "check sums and tests: {sums}\n")?;
+        write!(f, "words encoded: {encoding}\n")?;
+        write!(f, "least pairs: {solving}\n")?;
+        write!(f, "words corrected: {correcting}\n")?;
         write!(
             f,
-            "{questions}\n{sums}\n{encoding}\n{solving}\n{correcting}\n{seeking}"
+            "words corrected, beside a search among all words: {seeking}"
         )
     }
 }

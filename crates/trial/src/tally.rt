@@ -40,7 +40,6 @@ pub struct Outcome<T, B> {
 #[derive(Drop)]
 pub struct Tally {
     heap: Global,
-    kind: &'static str,
     cases: u64,
     refused: BTreeMap<Row, u64>,
     differing: u64,
@@ -48,10 +47,9 @@ pub struct Tally {
 }
 
 impl Tally {
-    pub fn new(heap: Global, kind: &'static str) -> Tally {
+    pub fn new(heap: Global) -> Tally {
         Tally {
             heap,
-            kind,
             cases: 0,
             refused: BTreeMap::new(heap),
             differing: 0,
@@ -96,12 +94,11 @@ impl Tally {
 impl Display for Tally {
     fn fmt<W: fmt::Write>(&self, f: &mut fmt::Formatter<W>) -> fmt::Result {
         let Tally {
-            kind,
             cases,
             differing,
             ..
         } = self;
-        write!(f, "{kind}: {cases} cases, {differing} differ")?;
+        write!(f, "{cases} cases, {differing} differ")?;
         for (row, count) in self.refused.iter() {
             write!(f, "\n  refused as {row}: {count}")?;
         }
