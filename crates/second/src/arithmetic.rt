@@ -32,18 +32,22 @@ impl Kind {
     fn step(&self) -> u32 {
         match self {
             Kind::Residues => 3,
-            Kind::Bytes => 2,
-            Kind::Nibbles => 2,
+            Kind::Bytes | Kind::Nibbles => 2,
         }
     }
 
-    // The bits of the modulus, for the polynomials.
-    fn modulus(&self) -> u32 {
+    // The product of two symbols, worked out.
+    fn product(&self, x: u32, y: u32) -> u32 {
         match self {
-            Kind::Residues => 0,
-            Kind::Bytes => 0b1_0001_1101,
-            Kind::Nibbles => 0b1_0011,
+            Kind::Residues => x % 929 * (y % 929) % 929,
+            Kind::Bytes => polynomial_product(x, y, 0b1_0001_1101, 256),
+            Kind::Nibbles => polynomial_product(x, y, 0b1_0011, 16),
         }
+    }
+
+    // The first symbol whose product with x is 1.
+    fn reciprocal(&self, x: u32) -> Option<u32> {
+        (1..self.symbols()).find(|y| self.product(x, *y) == 1)
     }
 }
 
@@ -66,32 +70,14 @@ fn polynomial_product(x: u32, y: u32, modulus: u32, top: u32) -> u32 {
     total
 }
 
-// The product of two symbols, worked out.
-fn worked_product(kind: Kind, x: u32, y: u32) -> u32 {
-    match kind {
-        Kind::Residues => x % 929 * (y % 929) % 929,
-        Kind::Bytes => polynomial_product(x, y, kind.modulus(), 256),
-        Kind::Nibbles => polynomial_product(x, y, kind.modulus(), 16),
-    }
-}
-
-// The first symbol whose product with x is 1, or 0.
-fn sought_reciprocal(kind: Kind, x: u32) -> u32 {
-    for y in 1..kind.symbols() {
-        if worked_product(kind, x, y) == 1 {
-            return y;
-        }
-    }
-    0
-}
-
-// A field with its tables, which are worked out when it is made.
+// A field with its tables, which are worked out when it is made, and the memory for what is worked out over it.
 #[derive(Drop)]
 pub struct Arithmetic {
+    pub(crate) heap: Global,
     kind: Kind,
     // Every product of two polynomials, row after row; none for the residues.
-    products: Vec<u32>,
-    reciprocals: Vec<u32>,
+    products: Option<Vec<u32>>,
+    reciprocals: Vec<Option<u32>>,
     powers: Vec<u32>,
 }
 
@@ -100,7 +86,7 @@ fn product_table(heap: Global, kind: Kind) -> Result<Vec<u32>, AllocError> {
     let mut out = Vec::new(heap);
     for x in 0..kind.symbols() {
         for y in 0..kind.symbols() {
-            out.push(worked_product(kind, x, y))?;
+            out.push(kind.product(x, y))?;
         }
     }
     Ok(out)
@@ -112,16 +98,7 @@ fn power_table(heap: Global, kind: Kind) -> Result<Vec<u32>, AllocError> {
     let mut power = 1;
     for _ in 1..kind.symbols() {
         out.push(power)?;
-        power = worked_product(kind, power, kind.step());
-    }
-    Ok(out)
-}
-
-// The reciprocal of each symbol, and 0 where there is none.
-fn reciprocal_table(heap: Global, kind: Kind) -> Result<Vec<u32>, AllocError> {
-    let mut out = Vec::new(heap);
-    for x in 0..kind.symbols() {
-        out.push(sought_reciprocal(kind, x))?;
+        power = kind.product(power, kind.step());
     }
     Ok(out)
 }
@@ -129,13 +106,15 @@ fn reciprocal_table(heap: Global, kind: Kind) -> Result<Vec<u32>, AllocError> {
 impl Arithmetic {
     pub fn new(heap: Global, kind: Kind) -> Result<Arithmetic, AllocError> {
         let products = match kind {
-            Kind::Residues => Vec::new(heap),
-            Kind::Bytes => product_table(heap, kind)?,
-            Kind::Nibbles => product_table(heap, kind)?,
+            Kind::Residues => None,
+            Kind::Bytes | Kind::Nibbles => Some(product_table(heap, kind)?),
         };
-        let reciprocals = reciprocal_table(heap, kind)?;
+        let reciprocals = (0..kind.symbols())
+            .map(|x| kind.reciprocal(x))
+            .collect(heap)?;
         let powers = power_table(heap, kind)?;
         Ok(Arithmetic {
+            heap,
             kind,
             products,
             reciprocals,
@@ -172,8 +151,7 @@ impl Arithmetic {
         }
         match self.kind {
             Kind::Residues => (x + y) % q,
-            Kind::Bytes => (x ^ y) % q,
-            Kind::Nibbles => (x ^ y) % q,
+            Kind::Bytes | Kind::Nibbles => (x ^ y) % q,
         }
     }
 
@@ -185,10 +163,9 @@ impl Arithmetic {
         if x >= q || y >= q {
             return 0;
         }
-        match self.kind {
-            Kind::Residues => x * y % q,
-            Kind::Bytes => at(&self.products, (x * q + y) as usize) % q,
-            Kind::Nibbles => at(&self.products, (x * q + y) as usize) % q,
+        match &self.products {
+            None => x * y % q,
+            Some(table) => at(table, (x * q + y) as usize) % q,
         }
     }
 
@@ -202,26 +179,22 @@ impl Arithmetic {
         }
         match self.kind {
             Kind::Residues => (q - x) % q,
-            Kind::Bytes => x,
-            Kind::Nibbles => x,
+            Kind::Bytes | Kind::Nibbles => x,
         }
     }
 
     // The reciprocal of a symbol, where it has one.
     pub fn reciprocal(&self, x: u32) -> Option<u32> {
-        match at(&self.reciprocals, x as usize) {
-            0 => None,
-            y => Some(y),
-        }
+        self.reciprocals.get(x as usize).copied().flatten()
     }
 
     // The step element to the i.
     pub fn power(&self, i: u64) -> u32 {
-        at(&self.powers, (i % self.turn() as u64) as usize)
+        at(&self.powers, (i % u64::from(self.turn())) as usize)
     }
 
     // One number less another.
-    pub fn difference(&self, x: u32, y: u32) -> u32
+    pub(crate) fn difference(&self, x: u32, y: u32) -> u32
         ensures { result < size self.now.kind }
     {
         self.sum(x, self.opposite(y))

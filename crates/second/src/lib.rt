@@ -4,7 +4,7 @@
 
 pub mod arithmetic;
 pub mod correction;
-pub mod matrix;
+mod equations;
 pub mod pairs;
 pub mod places;
 pub mod rules;

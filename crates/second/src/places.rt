@@ -5,7 +5,7 @@ ghost use Rattle.std.specs.Prelude.{◌≡◌, slice_index, slice_set};
 pub fn at(xs: &[u32], i: usize) -> u32
     ensures { result ≡ slice_index xs.now i }
 {
-    if i < xs.len() { xs[i] } else { 0 }
+    xs.get(i).copied().unwrap_or(0)
 }
 
 // Writes at a place, and nothing past the end.
@@ -15,9 +15,4 @@ pub fn put(xs: &mut [u32], i: usize, x: u32)
     if i < xs.len() {
         xs[i] = x;
     }
-}
-
-// Whether a place is marked; none is past the end.
-pub fn is_marked(marks: &[bool], i: usize) -> bool {
-    i < marks.len() && marks[i]
 }

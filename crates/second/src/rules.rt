@@ -1,66 +1,92 @@
-// Which row of the refusal table a call meets, apart from any bay: the topmost that holds, by its number.
+// The refusal table, apart from any bay: of the rows that a call meets, the topmost.
 use crate::arithmetic::Arithmetic;
 use crate::words::Shape;
 
-// Whether each number is a symbol.
-fn are_symbols(field: &Arithmetic, xs: &[u32]) -> bool {
-    for x in xs {
-        if *x >= field.symbols() {
-            return false;
-        }
-    }
-    true
+// Why a call is refused, each with the number of its row.
+#[derive(Clone, Copy, Debug, PartialEq, Eq)]
+pub enum Rule {
+    Positions = 1,
+    Checks = 2,
+    PastTurn = 3,
+    FirstRoot = 4,
+    Count = 7,
+    Map = 8,
+    Symbol = 10,
+    OutOfReach = 12,
+    Buffer = 13,
+    Terms = 14,
+    Order = 15,
 }
 
-// The row that three numbers meet which are to be a code.
-pub fn shape_row(shape: Shape) -> Option<u32> {
+impl Rule {
+    // The number of the row.
+    pub fn number(&self) -> u32 {
+        *self as u32
+    }
+}
+
+// That each number is a symbol.
+fn check_symbols(field: &Arithmetic, xs: &[u32]) -> Result<(), Rule> {
+    if xs.iter().all(|x| *x < field.symbols()) {
+        Ok(())
+    } else {
+        Err(Rule::Symbol)
+    }
+}
+
+// That three numbers are a code.
+fn check_shape(shape: Shape) -> Result<(), Rule> {
     if shape.n < 2 || shape.n > 928 {
-        Some(1)
+        Err(Rule::Positions)
     } else if shape.checks == 0 || shape.checks >= shape.n || shape.checks > 512 {
-        Some(2)
+        Err(Rule::Checks)
     } else {
-        None
+        Ok(())
     }
 }
 
-// The row that a code and a word, with a mark or none for each of `marked` positions, meet over a field.
-pub fn word_row(field: &Arithmetic, shape: Shape, word: &[u32], marked: usize) -> Option<u32> {
+// That three numbers are a code over a field, and that it has this word, with a mark or none for each of `marked` positions.
+pub fn check_word(
+    field: &Arithmetic,
+    shape: Shape,
+    word: &[u32],
+    marked: usize,
+) -> Result<(), Rule> {
+    check_shape(shape)?;
     if shape.n > field.turn() {
-        Some(3)
+        Err(Rule::PastTurn)
     } else if shape.first >= field.turn() {
-        Some(4)
+        Err(Rule::FirstRoot)
     } else if word.len() != shape.n as usize {
-        Some(7)
+        Err(Rule::Count)
     } else if marked != shape.n as usize {
-        Some(8)
-    } else if !are_symbols(field, word) {
-        Some(10)
+        Err(Rule::Map)
     } else {
-        None
+        check_symbols(field, word)
     }
 }
 
-// The row that a call of the solver meets: n coefficients in order r, and buffers of these lengths.
-pub fn solve_row(
+// That the solver can be called with n coefficients in order r, and with buffers of these lengths.
+pub fn check_request(
     field: &Arithmetic,
     g: &[u32],
     n: u32,
     r: i32,
     left: usize,
     right: usize,
-) -> Option<u32> {
+) -> Result<(), Rule> {
     let least = n as usize + 1;
     if g.len() != n as usize {
-        Some(7)
-    } else if !are_symbols(field, g) {
-        Some(10)
-    } else if left < least || right < least {
-        Some(13)
+        return Err(Rule::Count);
+    }
+    check_symbols(field, g)?;
+    if left < least || right < least {
+        Err(Rule::Buffer)
     } else if n == 0 || n > 512 {
-        Some(14)
+        Err(Rule::Terms)
     } else if r < -511 || r > 511 {
-        Some(15)
+        Err(Rule::Order)
     } else {
-        None
+        Ok(())
     }
 }

@@ -1,8 +1,7 @@
-// Words of a code: check sums, the checks of a message, and the codeword in reach, each from its equations.
+// Words of a code: check sums, and the checks of a message, each from its equations.
 use crate::arithmetic::Arithmetic;
-use crate::matrix::{Matrix, solution};
-use crate::places::{at, is_marked, put};
-use std::alloc::{AllocError, Global};
+use crate::equations::solution;
+use std::alloc::AllocError;
 
 // n positions, of which the first `checks` are the checks, and the exponent of the first root.
 #[derive(Clone, Copy)]
@@ -15,98 +14,62 @@ pub struct Shape {
 impl Shape {
     // a^(i(b + j)): what the symbol at position i counts in check sum j.
     fn weight(&self, field: &Arithmetic, i: usize, j: usize) -> u32 {
-        field.power((i as u64).wrapping_mul((self.first as u64).wrapping_add(j as u64)))
+        field.power((i as u64).wrapping_mul(u64::from(self.first).wrapping_add(j as u64)))
     }
 
     // Check sum j of a word.
     pub fn check_sum(&self, field: &Arithmetic, word: &[u32], j: usize) -> u32 {
-        let mut total = 0;
-        for i in 0..word.len() {
-            total = field.sum(total, field.product(word[i], self.weight(field, i, j)));
-        }
-        total
+        word.iter().enumerate().fold(0, |total, (i, x)| {
+            field.sum(total, field.product(*x, self.weight(field, i, j)))
+        })
     }
 
     // The lowest check sum that is not 0.
     pub fn failing(&self, field: &Arithmetic, word: &[u32]) -> Option<u32> {
-        for j in 0..self.checks {
-            if self.check_sum(field, word, j as usize) != 0 {
-                return Some(j);
-            }
-        }
-        None
+        (0..self.checks).find(|j| self.check_sum(field, word, *j as usize) != 0)
     }
 
     // All check sums.
     pub(crate) fn check_sums(
         &self,
         field: &Arithmetic,
-        heap: Global,
         word: &[u32],
     ) -> Result<Vec<u32>, AllocError> {
-        let mut out = Vec::new(heap);
-        for j in 0..self.checks as usize {
-            out.push(self.check_sum(field, word, j))?;
-        }
-        Ok(out)
+        (0..self.checks as usize)
+            .map(|j| self.check_sum(field, word, j))
+            .collect(field.heap)
     }
 
     // The amounts at some positions whose check sums are `sums`, if there are any.
     pub(crate) fn amounts(
         &self,
         field: &Arithmetic,
-        heap: Global,
         positions: &[usize],
         sums: &[u32],
     ) -> Result<Option<Vec<u32>>, AllocError> {
-        let unknowns = positions.len();
-        let mut system = Matrix::zeros(heap, sums.len(), unknowns.saturating_add(1))?;
-        for j in 0..sums.len() {
-            for k in 0..unknowns {
-                system.set(j, k, self.weight(field, positions[k], j));
-            }
-            system.set(j, unknowns, sums[j]);
+        let mut equations = Vec::new(field.heap);
+        for (j, sum) in sums.iter().enumerate() {
+            let weights = positions.iter().map(|i| self.weight(field, *i, j));
+            let mut equation: Vec<u32> = weights.collect(field.heap)?;
+            equation.push(*sum)?;
+            equations.push(equation)?;
         }
-        solution(field, heap, system)
+        solution(field, positions.len(), equations)
     }
 
     // Replaces the checks of a word so that it is a codeword: the check equations, solved for the checks.
-    pub fn encode(
-        &self,
-        field: &Arithmetic,
-        heap: Global,
-        word: &mut [u32],
-    ) -> Result<(), AllocError> {
-        let mut checks = Vec::new(heap);
-        for i in 0..self.checks as usize {
-            put(word, i, 0);
-            checks.push(i)?;
+    pub fn encode(&self, field: &Arithmetic, word: &mut [u32]) -> Result<(), AllocError> {
+        let checks = self.checks as usize;
+        for x in word.iter_mut().take(checks) {
+            *x = 0;
         }
-        let sums = self.check_sums(field, heap, word)?;
-        if let Some(found) = self.amounts(field, heap, &checks, &sums)? {
-            for i in 0..found.len() {
-                put(word, i, field.opposite(found[i]));
+        let positions: Vec<usize> = (0..checks).collect(field.heap)?;
+        let sums = self.check_sums(field, word)?;
+        if let Some(found) = self.amounts(field, &positions, &sums)? {
+            for (x, amount) in word.iter_mut().zip(found.iter()) {
+                *x = field.opposite(*amount);
             }
         }
         Ok(())
-    }
-
-    // Whether a word is a codeword in reach of another with its marks.
-    pub(crate) fn is_in_reach(
-        &self,
-        field: &Arithmetic,
-        word: &[u32],
-        marks: &[bool],
-        codeword: &[u32],
-    ) -> bool {
-        let mut cost = 0u32;
-        for i in 0..codeword.len() {
-            if is_marked(marks, i) {
-                cost = cost.saturating_add(1);
-            } else if at(word, i) != codeword[i] {
-                cost = cost.saturating_add(2);
-            }
-        }
-        cost <= self.checks && self.failing(field, codeword).is_none()
     }
 }

@@ -1,6 +1,6 @@
 // Codes, words and marks to compare on.
 use crate::random::Random;
-use second::arithmetic::Kind;
+use second::arithmetic::Arithmetic;
 use second::places::put;
 use second::words::Shape;
 use std::alloc::{AllocError, Global};
@@ -13,104 +13,116 @@ const EDGES: [u32; 18] = [
 // The most symbols that a word is made of: more than any code has.
 const MOST: u32 = 1000;
 
-// A number that a rule may refuse.
-pub fn any_number(random: &mut Random) -> u32 {
-    if random.one_in(2) {
-        random.below(20)
-    } else {
-        EDGES[random.below(18) as usize % 18]
+// What the cases over one field are made of: random numbers, the second implementation of the field, and memory.
+#[derive(Drop)]
+pub struct Cases<'a> {
+    pub heap: Global,
+    pub random: &'a mut Random,
+    pub second: &'a Arithmetic,
+}
+
+impl Cases<'_> {
+    // A number that a rule may refuse.
+    pub fn any_number(&mut self) -> u32 {
+        if self.random.one_in(2) {
+            self.random.below(20)
+        } else {
+            EDGES[self.random.below(18) as usize % 18]
+        }
     }
-}
 
-// How long the words of most codes are at most.
-fn longest(random: &mut Random) -> u32 {
-    match random.below(16) {
-        0 => 80,
-        1 => 40,
-        2 => 30,
-        3 => 20,
-        _ => 12,
+    // A number, or at times one that a rule may refuse.
+    fn number_near(&mut self, x: u32) -> u32 {
+        if self.random.one_in(3) {
+            self.any_number()
+        } else {
+            x
+        }
     }
-}
 
-// A code over a field.
-pub fn code_of(random: &mut Random, kind: Kind) -> Shape {
-    let turn = kind.symbols().saturating_sub(1);
-    let most = longest(random).min(turn);
-    let n = random.between(2, most);
-    let checks = random.between(1, n.saturating_sub(1).min(24));
-    let first = random.below(turn);
-    Shape { n, checks, first }
-}
-
-// Three numbers, of which some may make no code.
-pub fn any_shape(random: &mut Random, kind: Kind) -> Shape {
-    let code = code_of(random, kind);
-    let n = if random.one_in(3) {
-        any_number(random)
-    } else {
-        code.n
-    };
-    let checks = if random.one_in(3) {
-        any_number(random)
-    } else {
-        code.checks
-    };
-    let first = if random.one_in(3) {
-        any_number(random)
-    } else {
-        code.first
-    };
-    Shape { n, checks, first }
-}
-
-// A length: mostly the one that is asked for.
-pub fn any_length(random: &mut Random, n: u32) -> u32 {
-    if random.one_in(8) {
-        random.below(20)
-    } else {
-        n.min(MOST)
+    // How long the words of most codes are at most.
+    fn longest(&mut self) -> u32 {
+        match self.random.below(16) {
+            0 => 80,
+            1 => 40,
+            2 => 30,
+            3 => 20,
+            _ => 12,
+        }
     }
-}
 
-// Some symbols, 0 and 1 more often than others, and at times no others.
-pub fn symbols(
-    heap: Global,
-    random: &mut Random,
-    kind: Kind,
-    n: u32,
-) -> Result<Vec<u32>, AllocError> {
-    let mut out = Vec::new(heap);
-    let plain = random.one_in(8);
-    for _ in 0..n {
-        let few = plain || random.one_in(4);
-        out.push(random.below(if few { 2 } else { kind.symbols() }))?;
+    // A code over the field.
+    pub fn code(&mut self) -> Shape {
+        let turn = self.second.turn();
+        let most = self.longest().min(turn);
+        let n = self.random.between(2, most);
+        let checks = self.random.between(1, n.saturating_sub(1).min(24));
+        let first = self.random.below(turn);
+        Shape { n, checks, first }
     }
-    Ok(out)
-}
 
-// Makes one of some numbers no symbol, at times.
-pub fn spoil(random: &mut Random, kind: Kind, word: &mut [u32]) {
-    if random.one_in(8) {
-        let i = random.below(word.len().min(MOST as usize) as u32);
-        put(
-            word,
-            i as usize,
-            kind.symbols().saturating_add(random.below(3)),
-        );
+    // Three numbers, of which some may make no code.
+    pub fn any_shape(&mut self) -> Shape {
+        let code = self.code();
+        let n = self.number_near(code.n);
+        let checks = self.number_near(code.checks);
+        let first = self.number_near(code.first);
+        Shape { n, checks, first }
     }
-}
 
-// Marks at random positions, about one in `apart`.
-pub fn marks(
-    heap: Global,
-    random: &mut Random,
-    n: u32,
-    apart: u32,
-) -> Result<Vec<bool>, AllocError> {
-    let mut out = Vec::new(heap);
-    for _ in 0..n {
-        out.push(random.one_in(apart))?;
+    // A length: mostly the one that is asked for.
+    pub fn any_length(&mut self, n: u32) -> u32 {
+        if self.random.one_in(8) {
+            self.random.below(20)
+        } else {
+            n.min(MOST)
+        }
     }
-    Ok(out)
+
+    // A symbol.
+    pub fn symbol(&mut self) -> u32 {
+        self.random.below(self.second.symbols())
+    }
+
+    // Some symbols, 0 and 1 more often than others, and at times no others.
+    pub fn symbols(&mut self, n: u32) -> Result<Vec<u32>, AllocError> {
+        let mut out = Vec::new(self.heap);
+        let plain = self.random.one_in(8);
+        for _ in 0..n {
+            let few = plain || self.random.one_in(4);
+            let x = if few {
+                self.random.below(2)
+            } else {
+                self.symbol()
+            };
+            out.push(x)?;
+        }
+        Ok(out)
+    }
+
+    // A word of about that length, which may have numbers that are no symbols.
+    pub fn any_word(&mut self, n: u32) -> Result<Vec<u32>, AllocError> {
+        let n = self.any_length(n);
+        let mut word = self.symbols(n)?;
+        self.spoil(&mut word);
+        Ok(word)
+    }
+
+    // Makes one of some numbers no symbol, at times.
+    pub fn spoil(&mut self, word: &mut [u32]) {
+        if self.random.one_in(8) {
+            let i = self.random.below(word.len().min(MOST as usize) as u32);
+            let x = self.second.symbols().saturating_add(self.random.below(3));
+            put(word, i as usize, x);
+        }
+    }
+
+    // Marks at random positions, about one in `apart`.
+    pub fn marks(&mut self, n: u32, apart: u32) -> Result<Vec<bool>, AllocError> {
+        let mut out = Vec::new(self.heap);
+        for _ in 0..n {
+            out.push(self.random.one_in(apart))?;
+        }
+        Ok(out)
+    }
 }

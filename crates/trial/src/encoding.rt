@@ -1,116 +1,65 @@
 // Encoding.
-use crate::cases::{any_length, any_shape, code_of, spoil, symbols};
+use crate::cases::Cases;
 use crate::proved;
-use crate::random::Random;
-use crate::tally::{Tally, row_of};
-use second::arithmetic::{Arithmetic, Kind};
-use second::rules::{shape_row, word_row};
+use crate::tally::{Outcome, Row, Tally};
+use field::Fixed;
+use second::arithmetic::Arithmetic;
+use second::rules::check_word;
 use second::words::Shape;
-use std::alloc::{AllocError, Global};
+use std::alloc::AllocError;
 
-// An answer, and the word after.
-#[derive(Drop)]
-struct Encoded {
-    answer: Result<(), u32>,
-    word: Vec<u32>,
-}
-
-// By the library.
-fn first_way(heap: Global, kind: Kind, shape: Shape, word: &[u32]) -> Result<Encoded, AllocError> {
-    let mut word = Vec::from_slice(heap, word)?;
-    let answer = proved::encode(kind, shape, &mut word);
-    Ok(Encoded { answer, word })
-}
-
-// By the second implementation.
+// As the second implementation encodes.
 fn second_way(
-    heap: Global,
     second: &Arithmetic,
     shape: Shape,
-    word: &[u32],
-) -> Result<Encoded, AllocError> {
-    let mut word = Vec::from_slice(heap, word)?;
-    if let Some(row) = shape_row(shape) {
-        return Ok(Encoded {
-            answer: Err(row),
-            word,
-        });
+    mut word: Vec<u32>,
+) -> Result<Outcome<(), Vec<u32>>, AllocError> {
+    let rule = check_word(second, shape, &word, shape.n as usize);
+    if rule.is_ok() {
+        shape.encode(second, &mut word)?;
     }
-    if let Some(row) = word_row(second, shape, &word, shape.n as usize) {
-        return Ok(Encoded {
-            answer: Err(row),
-            word,
-        });
-    }
-    shape.encode(second, heap, &mut word)?;
-    Ok(Encoded {
-        answer: Ok(()),
-        word,
+    Ok(Outcome {
+        answer: rule.map_err(Row::from),
+        after: word,
     })
 }
 
-// A case in full.
-fn described(
-    heap: Global,
-    kind: Kind,
+// Holds the two against each other on one word.
+fn compare<F: Fixed<Q, M>, const Q: u32, const M: u32>(
+    field: &F,
+    cases: &mut Cases,
     shape: Shape,
     word: &[u32],
-    first: &Encoded,
-    other: &Encoded,
-) -> Result<String, AllocError> {
-    let q = kind.symbols();
+    tally: &mut Tally,
+) -> Result<(), AllocError> {
+    let mut after = word.to_vec(cases.heap)?;
+    let answer = proved::encode(field, shape, &mut after);
+    let first = Outcome { answer, after };
+    let other = second_way(cases.second, shape, word.to_vec(cases.heap)?)?;
     let Shape {
         n,
         checks,
         first: root,
     } = shape;
-    let answer = first.answer;
-    let after = &first.word;
-    let other_answer = other.answer;
-    let other_after = &other.word;
-    format!(in heap;
-        "{q}: code {n} {checks} {root}, encode {word:?}: {answer:?} {after:?}; the second: {other_answer:?} {other_after:?}"
-    )
-}
-
-// Holds the two against each other on one word.
-fn compare(
-    heap: Global,
-    kind: Kind,
-    second: &Arithmetic,
-    shape: Shape,
-    word: &[u32],
-    tally: &mut Tally,
-) -> Result<(), AllocError> {
-    let first = first_way(heap, kind, shape, word)?;
-    let other = second_way(heap, second, shape, word)?;
-    let same = first.answer == other.answer && first.word == other.word;
-    if tally.is_first_difference(row_of(&first.answer), same) {
-        tally.describe(described(heap, kind, shape, word, &first, &other)?);
-    }
-    Ok(())
+    let case = format_args!("{Q}: code {n} {checks} {root}, encode {word:?}");
+    tally.compare_outcomes(case, &first, &other)
 }
 
 // A code of the field, or any three numbers, and a word of that length or another.
-pub fn run(
-    heap: Global,
-    random: &mut Random,
-    kind: Kind,
-    second: &Arithmetic,
-    cases: u32,
+pub fn run<F: Fixed<Q, M>, const Q: u32, const M: u32>(
+    field: &F,
+    cases: &mut Cases,
+    count: u32,
     tally: &mut Tally,
 ) -> Result<(), AllocError> {
-    for _ in 0..cases {
-        let wild = random.one_in(4);
-        let shape = if wild {
-            any_shape(random, kind)
+    for _ in 0..count {
+        let shape = if cases.random.one_in(4) {
+            cases.any_shape()
         } else {
-            code_of(random, kind)
+            cases.code()
         };
-        let n = any_length(random, shape.n);
-        let mut word = symbols(heap, random, kind, n)?;
-        spoil(random, kind, &mut word);
-        compare(heap, kind, second, shape, &word, tally)?;
+        let word = cases.any_word(shape.n)?;
+        compare(field, cases, shape, &word, tally)?;
     }
     Ok(())
 }

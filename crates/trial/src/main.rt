@@ -2,10 +2,16 @@
 // It prints how many cases of each kind there were and in how many the two differ, and the first of those in full.
 #![tactic(auto)]
 
+use cases::Cases;
+use correcting::Few;
+use f16::F16;
+use f256::F256;
+use f929::F929;
+use field::Fixed;
 use random::Random;
 use second::arithmetic::{Arithmetic, Kind};
 use std::alloc::{AllocError, Global};
-use std::io;
+use std::{fmt, io};
 use tally::Tally;
 
 mod cases;
@@ -51,77 +57,88 @@ struct Tallies {
 impl Tallies {
     fn new(heap: Global) -> Tallies {
         Tallies {
-            questions: Tally::new(heap, "questions to a field"),
-            sums: Tally::new(heap, "check sums and tests"),
-            encoding: Tally::new(heap, "words encoded"),
-            solving: Tally::new(heap, "least pairs"),
-            correcting: Tally::new(heap, "words corrected"),
-            seeking: Tally::new(heap, "words corrected, beside a search among all words"),
+            questions: Tally::new(heap),
+            sums: Tally::new(heap),
+            encoding: Tally::new(heap),
+            solving: Tally::new(heap),
+            correcting: Tally::new(heap),
+            seeking: Tally::new(heap),
         }
-    }
-
-    fn print(&self, rt: &impl Print) -> io::Result<()> {
-        self.questions.print(rt)?;
-        self.sums.print(rt)?;
-        self.encoding.print(rt)?;
-        self.solving.print(rt)?;
-        self.correcting.print(rt)?;
-        self.seeking.print(rt)
     }
 }
 
-// The longest codes whose words are all gone through, and how many words of such codes are corrected.
-fn search_among_all(kind: Kind) -> (u32, u32) {
-    match kind {
-        Kind::Residues => (2, 20),
-        Kind::Bytes => (2, 200),
-        Kind::Nibbles => (4, 600),
+impl fmt::Display for Tallies {
+    fn fmt<W: fmt::Write>(&self, f: &mut fmt::Formatter<W>) -> fmt::Result {
+        let Tallies {
+            questions,
+            sums,
+            encoding,
+            solving,
+            correcting,
+            seeking,
+        } = self;
+        write!(f, "questions to a field: {questions}\n")?;
+        write!(f, "check sums and tests: {sums}\n")?;
+        write!(f, "words encoded: {encoding}\n")?;
+        write!(f, "least pairs: {solving}\n")?;
+        write!(f, "words corrected: {correcting}\n")?;
+        write!(
+            f,
+            "words corrected, beside a search among all words: {seeking}"
+        )
     }
 }
 
 // All comparisons over one field.
-fn run(heap: Global, kind: Kind, random: &mut Random, all: &mut Tallies) -> Result<(), AllocError> {
+fn run<F: Fixed<Q, M>, const Q: u32, const M: u32>(
+    field: &F,
+    kind: Kind,
+    few: Few,
+    heap: Global,
+    random: &mut Random,
+    all: &mut Tallies,
+) -> Result<(), AllocError> {
     let second = Arithmetic::new(heap, kind)?;
-    questions::run(heap, kind, &second, &mut all.questions)?;
-    sums::run(heap, random, kind, &second, TESTED, &mut all.sums)?;
-    encoding::run(heap, random, kind, &second, ENCODED, &mut all.encoding)?;
-    solving::run(
+    let mut cases = Cases {
         heap,
         random,
-        kind,
-        &second,
-        FEW,
-        SOLVED_FEW,
-        &mut all.solving,
-    )?;
-    solving::run(
-        heap,
-        random,
-        kind,
-        &second,
-        MORE,
-        SOLVED_MORE,
-        &mut all.solving,
-    )?;
-    correcting::run(heap, random, kind, &second, CORRECTED, &mut all.correcting)?;
-    let (longest, cases) = search_among_all(kind);
-    correcting::run_all_words(
-        heap,
-        random,
-        kind,
-        &second,
-        longest,
-        cases,
-        &mut all.seeking,
-    )
+        second: &second,
+    };
+    let cases = &mut cases;
+    questions::run(field, &second, &mut all.questions)?;
+    sums::run(field, cases, TESTED, &mut all.sums)?;
+    encoding::run(field, cases, ENCODED, &mut all.encoding)?;
+    solving::run(field, cases, FEW, SOLVED_FEW, &mut all.solving)?;
+    solving::run(field, cases, MORE, SOLVED_MORE, &mut all.solving)?;
+    correcting::run(field, cases, CORRECTED, &mut all.correcting)?;
+    correcting::run_all_words(field, cases, few, &mut all.seeking)
 }
 
 fn main(rt: HostRuntime) -> io::Result<()> {
     let heap = rt.alloc();
     let mut random = Random::new(SEED);
     let mut tallies = Tallies::new(heap);
-    run(heap, Kind::Residues, &mut random, &mut tallies)?;
-    run(heap, Kind::Bytes, &mut random, &mut tallies)?;
-    run(heap, Kind::Nibbles, &mut random, &mut tallies)?;
-    tallies.print(&rt)
+    let few = Few {
+        longest: 2,
+        words: 20,
+    };
+    run(
+        &F929 {},
+        Kind::Residues,
+        few,
+        heap,
+        &mut random,
+        &mut tallies,
+    )?;
+    let few = Few {
+        longest: 2,
+        words: 200,
+    };
+    run(&F256 {}, Kind::Bytes, few, heap, &mut random, &mut tallies)?;
+    let few = Few {
+        longest: 4,
+        words: 600,
+    };
+    run(&F16 {}, Kind::Nibbles, few, heap, &mut random, &mut tallies)?;
+    println!(rt; "{tallies}")
 }

@@ -1,13 +1,13 @@
 // The least pair.
-use crate::cases::{any_number, spoil, symbols};
-use crate::proved;
+use crate::cases::Cases;
 use crate::random::Random;
-use crate::tally::{Tally, row_of};
-use second::arithmetic::{Arithmetic, Kind};
+use crate::tally::{Outcome, Row, Tally};
+use field::Fixed;
+use second::arithmetic::Arithmetic;
 use second::pairs::{Pair, Term, least};
 use second::places::{at, put};
-use second::rules::solve_row;
-use solver::{LeastPair, Side};
+use second::rules::check_request;
+use solver::{LeastPair, Side, solve};
 use std::alloc::{AllocError, Global};
 
 // What a call of the solver is given, but for the field: the coefficients, their number, the order, and the two buffers.
@@ -16,143 +16,73 @@ struct Request {
     g: Vec<u32>,
     n: u32,
     r: i32,
-    left: Vec<u32>,
-    right: Vec<u32>,
+    buffers: Buffers,
 }
 
-// The answer, and what the buffers then hold.
-#[derive(Drop)]
-struct Outcome {
-    answer: Result<LeastPair, u32>,
-    left: Vec<u32>,
-    right: Vec<u32>,
+// What the buffers of a call hold.
+#[derive(PartialEq, Debug, Drop)]
+pub struct Buffers {
+    pub left: Vec<u32>,
+    pub right: Vec<u32>,
+}
+
+impl Buffers {
+    // A copy of what they hold.
+    fn copied(&self, heap: Global) -> Result<Buffers, AllocError> {
+        Ok(Buffers {
+            left: self.left.to_vec(heap)?,
+            right: self.right.to_vec(heap)?,
+        })
+    }
 }
 
 // How many coefficients there are up to the last that is not 0.
 fn count(xs: &[u32]) -> usize {
-    let mut out = 0usize;
-    let mut seen = 0usize;
-    for x in xs {
-        seen = seen.saturating_add(1);
-        if *x != 0 {
-            out = seen;
-        }
-    }
-    out
-}
-
-// The buffers of a call, with a first answer.
-fn unanswered(heap: Global, asked: &Request, row: u32) -> Result<Outcome, AllocError> {
-    let left = Vec::from_slice(heap, &asked.left)?;
-    let right = Vec::from_slice(heap, &asked.right)?;
-    Ok(Outcome {
-        answer: Err(row),
-        left,
-        right,
-    })
+    xs.iter()
+        .rposition(|x| *x != 0)
+        .map_or(0, |last| last.saturating_add(1))
 }
 
 // By the library.
-fn first_way(heap: Global, kind: Kind, asked: &Request) -> Result<Outcome, AllocError> {
-    let mut out = unanswered(heap, asked, 0)?;
-    out.answer = proved::solve(
-        kind,
-        &asked.g,
-        asked.n,
-        asked.r,
-        &mut out.left,
-        &mut out.right,
-    );
-    Ok(out)
+fn first_way<F: Fixed<Q, M>, const Q: u32, const M: u32>(
+    field: &F,
+    asked: &Request,
+    after: &mut Buffers,
+) -> Result<Option<LeastPair>, Row> {
+    let Buffers { left, right } = after;
+    Ok(Some(solve(field, &asked.g, asked.n, asked.r, left, right)?))
 }
 
 // Writes a half over the front of a buffer.
 fn write_over(half: &[u32], buffer: &mut [u32]) {
-    for i in 0..half.len() {
-        put(buffer, i, half[i]);
+    for (place, x) in buffer.iter_mut().zip(half) {
+        *place = *x;
     }
 }
 
 // Answers by a pair.
-fn tell(pair: &Pair, out: &mut Outcome) {
+fn told(pair: &Pair, after: &mut Buffers) -> LeastPair {
+    write_over(&pair.left, &mut after.left);
+    write_over(&pair.right, &mut after.right);
     let side = match pair.leading {
         Term::Left(_) => Side::Left,
         Term::Right(_) => Side::Right,
     };
-    out.answer = Ok(LeastPair {
-        left: count(&pair.left),
-        right: count(&pair.right),
-        leading: side,
-    });
-    write_over(&pair.left, &mut out.left);
-    write_over(&pair.right, &mut out.right);
+    (count(&pair.left), count(&pair.right), side)
 }
 
-// By the second implementation; row 0 where it finds no pair at all.
-fn second_way(heap: Global, second: &Arithmetic, asked: &Request) -> Result<Outcome, AllocError> {
-    let left = asked.left.len();
-    let right = asked.right.len();
-    if let Some(row) = solve_row(second, &asked.g, asked.n, asked.r, left, right) {
-        return unanswered(heap, asked, row);
-    }
-    let mut out = unanswered(heap, asked, 0)?;
-    if let Some(pair) = least(second, heap, &asked.g, asked.r)? {
-        tell(&pair, &mut out);
-    }
-    Ok(out)
-}
-
-// A case in full.
-fn described(
-    heap: Global,
-    kind: Kind,
-    asked: &Request,
-    first: &Outcome,
-    other: &Outcome,
-) -> Result<String, AllocError> {
-    let q = kind.symbols();
-    let Request {
-        g,
-        n,
-        r,
-        left,
-        right,
-    } = asked;
-    let mut out = format!(in heap; "{q}: solve {g:?} {n} {r} {left:?} {right:?}: ")?;
-    let Outcome {
-        answer,
-        left,
-        right,
-    } = first;
-    let text = format!(in heap; "{answer:?} {left:?} {right:?}; the second: ")?;
-    out.push_str(text.as_str())?;
-    let Outcome {
-        answer,
-        left,
-        right,
-    } = other;
-    let text = format!(in heap; "{answer:?} {left:?} {right:?}")?;
-    out.push_str(text.as_str())?;
-    Ok(out)
-}
-
-// Holds the two against each other on one call.
-fn compare(
-    heap: Global,
-    kind: Kind,
+// By the second implementation; nothing where it finds no pair at all.
+fn second_way(
     second: &Arithmetic,
     asked: &Request,
-    tally: &mut Tally,
-) -> Result<(), AllocError> {
-    let first = first_way(heap, kind, asked)?;
-    let other = second_way(heap, second, asked)?;
-    let same = first.answer == other.answer
-        && first.left == other.left
-        && first.right == other.right;
-    if tally.is_first_difference(row_of(&first.answer), same) {
-        tally.describe(described(heap, kind, asked, &first, &other)?);
+    after: &mut Buffers,
+) -> Result<Result<Option<LeastPair>, Row>, AllocError> {
+    let Request { g, n, r, buffers } = asked;
+    if let Err(rule) = check_request(second, g, *n, *r, buffers.left.len(), buffers.right.len()) {
+        return Ok(Err(Row::from(rule)));
     }
-    Ok(())
+    let pair = least(second, g, *r)?;
+    Ok(Ok(pair.map(|pair| told(&pair, after))))
 }
 
 // An order: mostly near 0, at times at the edges of what is allowed or past them.
@@ -167,82 +97,85 @@ fn any_order(random: &mut Random) -> i32 {
 }
 
 // A buffer that holds something: mostly with room for n + 1 places, at times too short.
-fn buffer(heap: Global, random: &mut Random, n: u32) -> Result<Vec<u32>, AllocError> {
+fn buffer(cases: &mut Cases, n: u32) -> Result<Vec<u32>, AllocError> {
     let least = n.min(1000).saturating_add(1);
-    let size = if random.one_in(16) {
-        random.below(least)
+    let size = if cases.random.one_in(16) {
+        cases.random.below(least)
     } else {
-        least.saturating_add(random.below(3))
+        least.saturating_add(cases.random.below(3))
     };
-    let mut out = Vec::new(heap);
+    let mut out = Vec::new(cases.heap);
     for _ in 0..size {
-        out.push(random.below(1000))?;
+        out.push(cases.random.below(1000))?;
     }
     Ok(out)
 }
 
 // Makes later coefficients follow from the first few, at times, and the first few 0.
-fn arrange(random: &mut Random, second: &Arithmetic, g: &mut [u32]) {
-    if random.one_in(3) {
-        let period = random.between(1, 4) as usize;
-        let factor = random.below(second.symbols());
+fn arrange(cases: &mut Cases, g: &mut [u32]) {
+    if cases.random.one_in(3) {
+        let period = cases.random.between(1, 4) as usize;
+        let factor = cases.symbol();
+        // Each coefficient is written from one that was written before it, so the loop keeps its index.
         for i in period..g.len() {
-            let x = second.product(factor, at(g, i.saturating_sub(period)));
+            let x = cases
+                .second
+                .product(factor, at(g, i.saturating_sub(period)));
             put(g, i, x);
         }
     }
-    if random.one_in(4) {
-        for i in 0..random.below(8) {
-            put(g, i as usize, 0);
+    if cases.random.one_in(4) {
+        let zeros = cases.random.below(8);
+        for x in g.iter_mut().take(zeros as usize) {
+            *x = 0;
         }
     }
 }
 
 // One call, on at most `most` coefficients.
-fn any_request(
-    heap: Global,
-    random: &mut Random,
-    kind: Kind,
-    second: &Arithmetic,
-    most: u32,
-) -> Result<Request, AllocError> {
-    let size = if random.one_in(32) {
+fn any_request(cases: &mut Cases, most: u32) -> Result<Request, AllocError> {
+    let size = if cases.random.one_in(32) {
         0
     } else {
-        random.between(1, most)
+        cases.random.between(1, most)
     };
-    let mut g = symbols(heap, random, kind, size)?;
-    arrange(random, second, &mut g);
-    spoil(random, kind, &mut g);
-    let n = if random.one_in(16) {
-        any_number(random)
+    let mut g = cases.symbols(size)?;
+    arrange(cases, &mut g);
+    cases.spoil(&mut g);
+    let n = if cases.random.one_in(16) {
+        cases.any_number()
     } else {
         size
     };
-    let left = buffer(heap, random, n)?;
-    let right = buffer(heap, random, n)?;
+    let left = buffer(cases, n)?;
+    let right = buffer(cases, n)?;
     Ok(Request {
         g,
         n,
-        r: any_order(random),
-        left,
-        right,
+        r: any_order(cases.random),
+        buffers: Buffers { left, right },
     })
 }
 
 // Calls on at most `most` coefficients.
-pub fn run(
-    heap: Global,
-    random: &mut Random,
-    kind: Kind,
-    second: &Arithmetic,
+pub fn run<F: Fixed<Q, M>, const Q: u32, const M: u32>(
+    field: &F,
+    cases: &mut Cases,
     most: u32,
-    cases: u32,
+    count: u32,
     tally: &mut Tally,
 ) -> Result<(), AllocError> {
-    for _ in 0..cases {
-        let asked = any_request(heap, random, kind, second, most)?;
-        compare(heap, kind, second, &asked, tally)?;
+    for _ in 0..count {
+        let asked = any_request(cases, most)?;
+        let mut after = asked.buffers.copied(cases.heap)?;
+        let answer = first_way(field, &asked, &mut after);
+        let first = Outcome { answer, after };
+        let mut after = asked.buffers.copied(cases.heap)?;
+        let answer = second_way(cases.second, &asked, &mut after)?;
+        let other = Outcome { answer, after };
+        let Request { g, n, r, buffers } = &asked;
+        let case = format_args!("{Q}: solve {g:?} {n} {r} {buffers:?}");
+        tally.compare_outcomes(case, &first, &other)?;
     }
     Ok(())
 }

@@ -1,71 +1,109 @@
 // What came of the comparisons of one kind.
+use code::Refusal;
+use second::rules::Rule;
 use std::alloc::{AllocError, Global};
-use std::io;
+use std::collections::BTreeMap;
+use std::fmt;
+use std::fmt::{Debug, Display};
 
-// The rows of the refusal table, and one before them for what is accepted.
-const ROWS: usize = 16;
+// A row of the refusal table, by its number, in which the two implementations are held against each other.
+#[derive(Clone, Copy, Debug, PartialEq, Eq, PartialOrd, Ord)]
+pub struct Row(u32);
 
-// How many cases there were, by the row that refused them, in how many the two answers differed, and the first of those.
-#[derive(Drop)]
-pub struct Tally {
-    kind: &'static str,
-    cases: u64,
-    rows: [u64; ROWS],
-    differing: u64,
-    first: String,
+impl From<Refusal> for Row {
+    fn from(why: Refusal) -> Row {
+        Row(why.number())
+    }
 }
 
-// The row of an answer, 0 where it is accepted.
-pub fn row_of<T: Drop>(answer: &Result<T, u32>) -> u32 {
-    match answer {
-        Ok(_) => 0,
-        Err(row) => *row,
+impl From<Rule> for Row {
+    fn from(rule: Rule) -> Row {
+        Row(rule.number())
     }
+}
+
+impl Display for Row {
+    fn fmt<W: fmt::Write>(&self, f: &mut fmt::Formatter<W>) -> fmt::Result {
+        let number = self.0;
+        write!(f, "{number}")
+    }
+}
+
+// What a call answers, and what its buffers then hold.
+#[derive(PartialEq, Debug, Drop)]
+pub struct Outcome<T, B> {
+    pub answer: Result<T, Row>,
+    pub after: B,
+}
+
+// How many cases there were, how many of them each row refused, in how many the two answers differed, and the first of those.
+#[derive(Drop)]
+pub struct Tally {
+    heap: Global,
+    cases: u64,
+    refused: BTreeMap<Row, u64>,
+    differing: u64,
+    first: Option<String>,
 }
 
 impl Tally {
-    pub fn new(heap: Global, kind: &'static str) -> Tally {
+    pub fn new(heap: Global) -> Tally {
         Tally {
-            kind,
+            heap,
             cases: 0,
-            rows: [0; ROWS],
+            refused: BTreeMap::new(heap),
             differing: 0,
-            first: String::new(heap),
+            first: None,
         }
     }
 
-    // Counts a case; answers whether it is the first in which the two differ, which is to be described.
-    pub fn is_first_difference(&mut self, row: u32, same: bool) -> bool {
-        let row = row as usize % ROWS;
+    // Counts a case, and keeps it where it is the first in which the two differ.
+    pub fn compare<T: PartialEq + Debug>(
+        &mut self,
+        case: impl Display + Drop,
+        first: &T,
+        other: &T,
+    ) -> Result<(), AllocError> {
         self.cases = self.cases.saturating_add(1);
-        self.rows[row] = self.rows[row].saturating_add(1);
-        if same {
-            return false;
-        }
-        self.differing = self.differing.saturating_add(1);
-        self.differing == 1
-    }
-
-    // Keeps the text of a case that differs.
-    pub fn describe(&mut self, text: String) {
-        self.first = text;
-    }
-
-    // Prints the counts, and the first difference where there is one.
-    pub fn print(&self, rt: &impl Print) -> io::Result<()> {
-        let kind = self.kind;
-        let cases = self.cases;
-        let differing = self.differing;
-        println!(rt; "{kind}: {cases} cases, {differing} differ")?;
-        for i in 1..ROWS {
-            let count = self.rows[i];
-            if count != 0 {
-                println!(rt; "  refused as {i}: {count}")?;
+        if first != other {
+            self.differing = self.differing.saturating_add(1);
+            if self.first.is_none() {
+                let text = format!(in self.heap; "{case}: {first:?}; the second: {other:?}")?;
+                self.first = Some(text);
             }
         }
-        if differing != 0 {
-            let first = self.first.as_str();
-            println!(rt; "  the first: {first}")?;
+        Ok(())
+    }
+
+    // Counts a case that may be refused.
+    pub fn compare_outcomes<T: PartialEq + Debug, B: PartialEq + Debug>(
+        &mut self,
+        case: impl Display + Drop,
+        first: &Outcome<T, B>,
+        other: &Outcome<T, B>,
+    ) -> Result<(), AllocError> {
+        if let Err(row) = first.answer {
+            let count = self.refused.entry(row)?.or_insert(0);
+            *count = count.saturating_add(1);
+        }
+        self.compare(case, first, other)
+    }
+}
+
+// The counts, and the first difference where there is one.
+impl Display for Tally {
+    fn fmt<W: fmt::Write>(&self, f: &mut fmt::Formatter<W>) -> fmt::Result {
+        let Tally {
+            cases,
+            differing,
+            ..
+        } = self;
+        write!(f, "{cases} cases, {differing} differ")?;
+        for (row, count) in self.refused.iter() {
+            write!(f, "\n  refused as {row}: {count}")?;
+        }
+        if let Some(first) = &self.first {
+            write!(f, "\n  the first: {first}")?;
         }
         Ok(())
     }

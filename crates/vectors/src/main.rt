@@ -12,13 +12,13 @@ use f16::F16;
 use f256::F256;
 use f929::F929;
 use field::Fixed;
-use std::alloc::Global;
-use std::io;
+use std::alloc::{AllocError, Global};
 use std::io::{BufRead, BufReader};
+use std::{fmt, io};
 use text::line::read_line;
 
 // How many words there were, and how many failed each trial.
-#[derive(Clone, Copy)]
+#[derive(Clone, Copy, Default)]
 struct Tally {
     words: u32,
     failing: u32,
@@ -26,27 +26,55 @@ struct Tally {
     lost: u32,
 }
 
-impl Tally {
-    fn new() -> Tally {
-        Tally {
-            words: 0,
-            failing: 0,
-            otherwise: 0,
-            lost: 0,
-        }
-    }
-
-    fn print(&self, rt: &HostRuntime, name: &str) -> io::Result<()> {
+impl fmt::Display for Tally {
+    fn fmt<W: fmt::Write>(&self, f: &mut fmt::Formatter<W>) -> fmt::Result {
         let Tally {
             words,
             failing,
             otherwise,
             lost,
-        } = *self;
-        println!(rt;
-            "{name}: {words} words, {failing} with a failing root, {otherwise} encoded otherwise, {lost} not restored"
+        } = self;
+        write!(
+            f,
+            "{words} words, {failing} with a failing root, {otherwise} encoded otherwise, {lost} not restored"
         )
     }
+}
+
+// The words of each field.
+#[derive(Clone, Copy, Default)]
+struct Tallies {
+    labels: Tally,
+    reels: Tally,
+    controls: Tally,
+}
+
+impl fmt::Display for Tallies {
+    fn fmt<W: fmt::Write>(&self, f: &mut fmt::Formatter<W>) -> fmt::Result {
+        let Tallies {
+            labels,
+            reels,
+            controls,
+        } = self;
+        write!(
+            f,
+            "labels: {labels}\nreels: {reels}\ncontrol words: {controls}"
+        )
+    }
+}
+
+// A word of a code.
+#[derive(Clone, Copy)]
+struct Vector<'a> {
+    code: Code,
+    word: &'a [u32],
+}
+
+// How many positions of a word are marked and changed, and how many more are changed.
+#[derive(Clone, Copy)]
+struct Damage {
+    marks: usize,
+    errors: usize,
 }
 
 // Another symbol than x.
@@ -54,77 +82,90 @@ fn other(x: u32, q: u32) -> u32 {
     if x == 0 || q < 2 { 1 } else { x - 1 }
 }
 
-// Whether a word comes back after `marks` positions are marked and changed and `errors` more are changed.
+// Whether a word comes back after some damage.
 fn comes_back<F: Fixed<Q, M>, const Q: u32, const M: u32>(
     field: &F,
-    code: &Code,
-    word: &[u32],
-    marks: usize,
-    errors: usize,
+    vector: Vector,
+    damage: Damage,
     heap: Global,
-) -> io::Result<bool> {
+) -> Result<bool, AllocError> {
+    let Vector { code, word } = vector;
+    let Damage { marks, errors } = damage;
     let mut damaged = word.to_vec(heap)?;
     let mut erased = vec![in heap; false; word.len()]?;
     // Every third position from the start, so that checks and message are both hit, and then on from the next.
-    let mut places = Vec::new(heap);
-    for start in 0..3usize {
-        for i in (start..word.len()).step_by(3) {
-            places.push(i)?;
+    let places = (0..3usize).flat_map(|start| (start..word.len()).step_by(3));
+    for (k, i) in places.take(marks.saturating_add(errors)).enumerate() {
+        if let Some(x) = damaged.get_mut(i) {
+            *x = other(*x, Q);
+        }
+        if let Some(mark) = erased.get_mut(i) {
+            *mark = k < marks;
         }
     }
-    for (k, place) in places.iter().enumerate() {
-        let i = *place;
-        if i < damaged.len() && i < erased.len() && k < marks.saturating_add(errors) {
-            damaged[i] = other(damaged[i], Q);
-            erased[i] = k < marks;
-        }
-    }
-    let answer = correct(field, code, erased.as_slice(), damaged.as_mut_slice());
+    let answer = correct(field, &code, &erased, &mut damaged);
     Ok(answer.is_ok() && damaged.as_slice() == word)
+}
+
+// Whether a word comes back when its checks are encoded again from its message.
+fn is_encoded_again<F: Fixed<Q, M>, const Q: u32, const M: u32>(
+    field: &F,
+    vector: Vector,
+    heap: Global,
+) -> Result<bool, AllocError> {
+    let Vector { code, word } = vector;
+    let mut again = word.to_vec(heap)?;
+    for x in again.iter_mut().take(code.checks() as usize) {
+        *x = 0;
+    }
+    let answer = encode(field, &code, &mut again);
+    Ok(answer.is_ok() && again.as_slice() == word)
 }
 
 // One word through all trials.
 fn try_word<F: Fixed<Q, M>, const Q: u32, const M: u32>(
     field: &F,
-    code: &Code,
-    word: &[u32],
+    vector: Vector,
     tally: &mut Tally,
     heap: Global,
-) -> io::Result<()> {
+) -> Result<(), AllocError> {
     tally.words = tally.words.saturating_add(1);
-    if !matches!(first_failing_root(field, code, word), Ok(None)) {
+    if !matches!(
+        first_failing_root(field, &vector.code, vector.word),
+        Ok(None)
+    ) {
         tally.failing = tally.failing.saturating_add(1);
     }
-    let mut again = word.to_vec(heap)?;
-    let checks = code.checks() as usize;
-    for (i, x) in again.iter_mut().enumerate() {
-        if i < checks {
-            *x = 0;
-        }
-    }
-    let answer = encode(field, code, again.as_mut_slice());
-    if answer.is_err() || again.as_slice() != word {
+    if !is_encoded_again(field, vector, heap)? {
         tally.otherwise = tally.otherwise.saturating_add(1);
     }
-    let half = checks / 2;
-    let quarter = checks / 4;
-    let whole = comes_back(field, code, word, checks, 0, heap)?
-        && comes_back(field, code, word, 0, half, heap)?
-        && comes_back(field, code, word, checks - 2 * quarter, quarter, heap)?;
-    if !whole {
-        tally.lost = tally.lost.saturating_add(1);
+    let checks = vector.code.checks() as usize;
+    let errors = checks / 4;
+    let limits = [
+        Damage {
+            marks: checks,
+            errors: 0,
+        },
+        Damage {
+            marks: 0,
+            errors: checks / 2,
+        },
+        Damage {
+            marks: checks - 2 * errors,
+            errors,
+        },
+    ];
+    for damage in limits {
+        if !comes_back(field, vector, damage, heap)? {
+            tally.lost = tally.lost.saturating_add(1);
+            break;
+        }
     }
     Ok(())
 }
 
 // One line: its field, its code and its word.
-fn try_line(
-    rt: &HostRuntime,
-    numbers: &[u32],
-    labels: &mut Tally,
-    reels: &mut Tally,
-    controls: &mut Tally,
-) -> io::Result<()> {
+fn try_line(rt: &HostRuntime, numbers: &[u32], tallies: &mut Tallies) -> io::Result<()> {
     let heap = rt.alloc();
     let [q, checks, first, word @ ..] = numbers else {
         return println!(rt; "a line without a code");
@@ -132,33 +173,25 @@ fn try_line(
     let Ok(code) = Code::new(u32::try_from(word.len()).unwrap_or(0), *checks, *first) else {
         return println!(rt; "a line with no code");
     };
+    let vector = Vector { code, word };
     match *q {
-        929 => try_word(&F929 {}, &code, word, labels, heap),
-        256 => try_word(&F256 {}, &code, word, reels, heap),
-        16 => try_word(&F16 {}, &code, word, controls, heap),
-        _ => println!(rt; "a line of another field"),
+        929 => try_word(&F929 {}, vector, &mut tallies.labels, heap)?,
+        256 => try_word(&F256 {}, vector, &mut tallies.reels, heap)?,
+        16 => try_word(&F16 {}, vector, &mut tallies.controls, heap)?,
+        _ => println!(rt; "a line of another field")?,
     }
+    Ok(())
 }
 
 fn main(rt: HostRuntime) -> io::Result<()> {
     let heap = rt.alloc();
-    let mut labels = Tally::new();
-    let mut reels = Tally::new();
-    let mut controls = Tally::new();
+    let mut tallies = Tallies::default();
     for line in BufReader::new(heap, rt.stdin())?.lines(heap) {
         let line = line?;
         match read_line(heap, line.as_bytes())? {
-            Some(sentence) => try_line(
-                &rt,
-                sentence.numbers.as_slice(),
-                &mut labels,
-                &mut reels,
-                &mut controls,
-            )?,
+            Some(sentence) => try_line(&rt, sentence.numbers.as_slice(), &mut tallies)?,
             None => println!(rt; "a line that says nothing")?,
         }
     }
-    labels.print(&rt, "labels")?;
-    reels.print(&rt, "reels")?;
-    controls.print(&rt, "control words")
+    println!(rt; "{tallies}")
 }
