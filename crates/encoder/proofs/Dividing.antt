@@ -1,5 +1,5 @@
 -- What a division by the generator keeps: at each root, the value of the row.
-use Rattle.std.proofs.Common.{◌≡◌, ℕ, suc, ◌+◌, ◌-◌, ◌<◌, ◌≤◌, List, length, get_or, take, drop, sym, refl, ap, ◌∙◌, subst, ap₂, arith, length-drop, get_or-drop, get_or-take}
+use Rattle.std.proofs.Common.{◌≡◌, ℕ, suc, ◌+◌, ◌-◌, ◌<◌, ◌≤◌, List, length, get_or, take, drop, sym, ap, ◌∙◌, subst, ap₂, arith, length-drop, get_or-drop, get_or-take}
 use native.Mathlib.Decide.{dec_lt}
 use borrow.Rule.Slice.PartMut.{put_mid}
 use Rattle.field.specs.Meaning.{Meaning, Laws}
@@ -9,19 +9,14 @@ use Rattle.field.specs.Rows.{Added}
 use Rattle.field.specs.Lifted.{lift, poly, sym_of}
 use Rattle.field.proofs.Parts.{cut, put_low, put_middle, put_high}
 use Rattle.field.proofs.Lifting as B
+use Rattle.algebra.proofs.Roots as R
 use Rattle.algebra.proofs.Division as D
-use Rattle.encoder.specs.Register.{Generates, Divided}
+use Rattle.encoder.specs.Register.{Generates}
 
 -- at each root the first i places of the row now have the value of the whole row as it was
 pub record Dividing (f : Meaning) (b r i : ℕ) (old now : List ℕ) : Type 0 where
   pub within : Within f.q now
   pub values : (j : ℕ) → j < r → value f (length old) old (b + j) ≡ value f i now (b + j)
-
-pub dividing_none : (f : Meaning) (b r : ℕ) (row : List ℕ) → Within f.q row → Dividing f b r (length row) row row
-dividing_none f b r row h = record { within = h; values = λ j _. refl }
-
-pub dividing_all : (f : Meaning) (b r i : ℕ) (old now : List ℕ) → i ≡ r → Dividing f b r i old now → Divided f b r old now
-dividing_all f b r i old now e d = record { within = d.within; values = λ j h. d.values j h ∙ ap (λ n. value f n now (b + j)) e }
 
 -- the places d to d + r - 1 take a multiple of the generator, and the others stay
 pub record Taken (f : Meaning) (c d r : ℕ) (g old new : List ℕ) : Type 0 where
@@ -55,26 +50,31 @@ module _ (f : Meaning) (l : Laws f) where
     ]
   ]
 
-  pub dividing_more : (b r d c : ℕ) (g old now new : List ℕ) → Generates f b r g → c ≡ f.opp (get_or now (d + r) 0) → Dividing f b r (suc (d + r)) old now → Taken f c d r g now new
-      → Dividing f b r (d + r) old new
-  dividing_more b r d c g old now new gen ce k t = record { within = new_in; values = each }
+  pub dividing_more : (b r d n i c : ℕ) (g old now new : List ℕ) → n ≡ r → i ≡ d + n → Generates f b r g → c ≡ f.opp (get_or now i 0) → Dividing f b r (suc i) old now → Taken f c d n g now new
+      → Dividing f b r i old new
+  dividing_more b r d n i c g old now new en ei gen ce k t = record { within = new_in; values = each }
     where
+      top : poly f l now i ≡ poly f l now (d + r)
+      top = ap (poly f l now) (omega arith)
+
       c_in : c < f.q
-      c_in = subst (λ n. n < f.q) (sym ce) (l.opp_in _ (k.within (d + r)))
+      c_in = rw ce (l.opp_in _ (k.within i))
 
       new_in : Within f.q new
-      new_in = taken_in c d r g now new c_in gen.within k.within t
+      new_in = taken_in c d n g now new c_in gen.within k.within t
 
-      each : (j : ℕ) → j < r → value f (length old) old (b + j) ≡ value f (d + r) new (b + j)
+      each : (j : ℕ) → j < r → value f (length old) old (b + j) ≡ value f i new (b + j)
       each j h =
           let F = lift f l in
           let z = B.root f l (b + j) in
-          let same = B.same_of f l _ _ (B.value_in f l (suc (d + r)) now (b + j) k.within) (B.value_in f l (d + r) new (b + j) new_in) in
-          k.values j h ∙ same (B.value_of f l (suc (d + r)) now (b + j) k.within
+          let same = B.same_of f l _ _ (B.value_in f l (suc i) now (b + j) k.within) (B.value_in f l i new (b + j) new_in) in
+          k.values j h ∙ same (B.value_of f l (suc i) now (b + j) k.within
+          ∙ ap (λ m. R.ev F m (poly f l now) z) (omega arith)
           ∙ D.divided F d r (poly f l g) (poly f l now) (poly f l new) z
           (ap (sym_of f l) gen.top ∙ B.one_of f l)
           (sym (B.value_of f l (suc r) g (b + j) gen.within) ∙ B.nil_to f l _ (gen.roots j h))
-          (λ i y. ap (sym_of f l) (t.low i y))
-          (λ i y. ap (sym_of f l) (t.mid i y) ∙ B.sum_of f l _ _ (k.within (d + i)) (l.prod_in _ _ c_in (gen.within i))
-          ∙ ap (F.◌⊕◌ (poly f l now (d + i))) (B.prod_of f l c _ c_in (gen.within i) ∙ ap (λ u. F.◌⊗◌ u (poly f l g i)) (ap (sym_of f l) ce ∙ B.opp_of f l _ (k.within (d + r)))))
-          ∙ sym (B.value_of f l (d + r) new (b + j) new_in))
+          (λ m y. ap (sym_of f l) (t.low m y))
+          (λ m y. ap (sym_of f l) (t.mid m (omega arith)) ∙ B.sum_of f l _ _ (k.within (d + m)) (l.prod_in _ _ c_in (gen.within m))
+          ∙ ap (F.◌⊕◌ (poly f l now (d + m))) (B.prod_of f l c _ c_in (gen.within m) ∙ ap (λ u. F.◌⊗◌ u (poly f l g m)) (ap (sym_of f l) ce ∙ B.opp_of f l _ (k.within i) ∙ ap F.neg top)))
+          ∙ ap (λ m. R.ev F m (poly f l new) z) (omega arith)
+          ∙ sym (B.value_of f l i new (b + j) new_in))

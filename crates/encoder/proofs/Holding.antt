@@ -1,5 +1,5 @@
 -- What the register holds: with the part of the message that it took in, it is 0 at every root.
-use Rattle.std.proofs.Common.{◌≡◌, ℕ, suc, ◌+◌, ◌-◌, ◌<◌, List, ◌++◌, length, get_or, reverse, sym, refl, ap, ◌∙◌, subst, ap₂, add-zero, arith, length-append}
+use Rattle.std.proofs.Common.{◌≡◌, ℕ, suc, ◌+◌, ◌-◌, ◌<◌, ◌≤◌, List, ◌++◌, length, get_or, reverse, sym, refl, ap, ◌∙◌, subst, ap₂, add-zero, arith, length-append}
 use Prim.Native.Nat.{Fin}
 use native.Mathlib.Decide.{dec_lt}
 use Rattle.std.proofs.lemmas.List.{get_or_append_left, get_or-append_right, get_or-reverse, get_or_default, length-reverse}
@@ -49,16 +49,16 @@ module _ (f : Meaning) (l : Laws f) where
   }
 
   -- what goes back into the register with the symbol x
-  pub fed_back : (x o c t : ℕ) (v : List ℕ) → x < f.q → Within f.q v → (get_or v t 0 < f.q → o ≡ f.opp (get_or v t 0)) → (x < f.q → o < f.q → c ≡ f.sum x o)
-      → (c ≡ f.sum x (f.opp (get_or v t 0))) × (c < f.q)
-  fed_back x o c t v x_in v_in eo ec =
-      let o_is = eo (v_in t) in
-      let o_in : o < f.q = rw o_is (l.opp_in _ (v_in t)) in
+  pub fed_back : (x o c t r : ℕ) (v : List ℕ) → t ≡ r → x < f.q → Within f.q v → (get_or v t 0 < f.q → o ≡ f.opp (get_or v t 0)) → (x < f.q → o < f.q → c ≡ f.sum x o)
+      → (c ≡ f.sum x (f.opp (get_or v r 0))) × (c < f.q)
+  fed_back x o c t r v et x_in v_in eo ec =
+      let o_is : o ≡ f.opp (get_or v r 0) = eo (v_in t) ∙ ap (λ n. f.opp (get_or v n 0)) et in
+      let o_in : o < f.q = rw o_is (l.opp_in _ (v_in r)) in
       (ec x_in o_in ∙ ap (f.sum x) o_is, rw (ec x_in o_in) (l.sum_in _ _ x_in o_in))
 
-  pub holding_more : (b r i c x : ℕ) (g m old new : List ℕ) → Generates f b (suc r) g → Within f.q m → Holding f b (suc r) (suc i) m old → i < length m
+  holding_next : (b r i c x : ℕ) (g m old new : List ℕ) → Generates f b (suc r) g → Within f.q m → Holding f b (suc r) (suc i) m old → i < length m
       → x ≡ get_or m i 0 → c ≡ f.sum x (f.opp (get_or old r 0)) → Turned f c r g old new → Holding f b (suc r) i m new
-  holding_more b r i c x g m old new gen m-in h hi ex ce t = record {
+  holding_next b r i c x g m old new gen m-in h hi ex ce t = record {
     within = T.turned_in f l c r g old new t c_in gen.within h.within;
     zeros = each;
   }
@@ -89,6 +89,12 @@ module _ (f : Meaning) (l : Laws f) where
           (ap (sym_of f l) gen.top ∙ B.one_of f l)
           (sym (B.value_of f l (suc (suc r)) g (b + j) gen.within) ∙ B.nil_to f l _ (gen.roots j k))
           (ap (λ u. F.◌⊕◌ (R.ev F (suc r) (poly f l old) z) (F.◌⊗◌ (R.pow F z (suc r)) u)) (D.ev_cong F d _ _ z (λ k y. ap (λ n. poly f l m n) (omega arith))) ∙ h.zeros l j k)
+
+  pub holding_more : (b k r n i c x : ℕ) (g m old new : List ℕ) → k ≡ suc r → n ≡ suc i → n ≤ length m → Generates f b k g → Within f.q m → Holding f b k n m old
+      → x ≡ get_or m i 0 → c ≡ f.sum x (f.opp (get_or old r 0)) → Turned f c r g old new → Holding f b k i m new
+  holding_more b k r n i c x g m old new ek en low gen m-in h ex ce t =
+      subst (λ k. Holding f b k i m new) (sym ek)
+      (holding_next b r i c x g m old new (subst (λ k. Generates f b k g) ek gen) m-in (subst (λ k. Holding f b k (suc i) m old) ek (subst (λ n. Holding f b k n m old) en h)) (omega arith) ex ce t)
 
   -- at the end every check sum is 0
   pub holding_end : (b r : ℕ) (m v : List ℕ) → length v ≡ r → Within f.q m → Holding f b r 0 m v → (j : ℕ) → j < r → value f (length (v ++ m)) (v ++ m) (b + j) ≡ 0

@@ -148,40 +148,39 @@ fn is_zero(row: &[u32]) -> bool
 fn evaluate<F: Fixed<Q, M>, const Q: u32, const M: u32>(
     over: &FieldCode<F, Q, M>,
     remainder: &[u32],
-    points: &mut [u32],
     out: &mut [u32],
 )
-    requires points { length points.old ≡ length out.old }
+    requires few { length out.old ≤ 512 }
     requires symbols { Within (F.Field.means over.now.field.now).q remainder.now }
     ensures { Evaluated (F.Field.means over.now.field.now) (shape over.now.code).first remainder.now out.new }
 {
+    let mut room = [0; CHECKS];
+    let points = &mut room[0..out.len()];
     powers(over.field, over.code.first_root(), 1, points);
     values(over.field, remainder, points, out);
 }
 
-// Writes the check sums of a word that fits, with room for its division and for the roots; whether all are 0.
+// Writes the check sums of a word that fits; whether all are 0.
 fn write_syndromes<F: Fixed<Q, M>, const Q: u32, const M: u32>(
     over: &FieldCode<F, Q, M>,
     word: &[u32],
-    room: &mut [u32],
-    points: &mut [u32],
     out: &mut [u32],
 ) -> bool
     requires word { Word Q (shape over.now.code).n word.now }
-    requires room { length room.old ≡ (shape over.now.code).n }
-    requires points { length points.old ≡ (shape over.now.code).checks }
     requires written { length out.old ≡ (shape over.now.code).checks }
     ensures all { result ≡ codeword (F.Field.means over.now.field.now) (shape over.now.code) word.now }
     ensures each { Summed (F.Field.means over.now.field.now) (shape over.now.code) word.now out.old out.new }
 {
-    room.copy_from_slice(word);
-    divide(over, &generator(over), room);
-    let remainder = &room[0..out.len()];
+    let mut room = [0; POSITIONS];
+    let row = &mut room[0..word.len()];
+    row.copy_from_slice(word);
+    divide(over, &generator(over), row);
+    let remainder = &row[0..out.len()];
     if is_zero(remainder) {
         out.fill(0);
         return true;
     }
-    evaluate(over, remainder, points, out);
+    evaluate(over, remainder, out);
     is_zero(out)
 }
 
@@ -202,13 +201,5 @@ pub fn syndromes<F: Fixed<Q, M>, const Q: u32, const M: u32>(
     if out.len() < checks {
         return Err(Refusal::Buffer);
     }
-    let mut room = [0; POSITIONS];
-    let mut points = [0; CHECKS];
-    Ok(write_syndromes(
-        &over,
-        word,
-        &mut room[0..word.len()],
-        &mut points[0..checks],
-        &mut out[0..checks],
-    ))
+    Ok(write_syndromes(&over, word, &mut out[0..checks]))
 }

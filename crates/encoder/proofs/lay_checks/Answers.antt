@@ -1,4 +1,4 @@
-use Rattle.std.proofs.Common.{◌≡◌, suc, ◌-◌, ◌<◌, ◌++◌, length, get_or, drop, replicate, sym, ap, ◌∙◌, subst, arith, rules}
+use Rattle.std.proofs.Common.{◌≡◌, ◌-◌, ◌<◌, ◌++◌, length, get_or, drop, replicate, sym, refl, ap, ◌∙◌, subst, arith, rules}
 use Rattle.std.proofs.lemmas.List.{length_push, length-reverse}
 use Rattle.std.proofs.lemmas.Iterator.Adapters.{YieldsList-from_rev_slice}
 use Rattle.std.proofs.lemmas.Iterator.Consumers.{YieldsList-turn, YieldsList-end}
@@ -6,7 +6,6 @@ use Rattle.field.specs.Symbols.{Within}
 use Rattle.code.specs.Shape.{shape}
 use Rattle.code.specs.Words.{Word}
 use Rattle.encoder.specs.Encodes.{Encodes}
-use Rattle.encoder.specs.Register.{Turned, Generates}
 use Rattle.encoder.proofs.Turns.{zeros_at, word_in, drop_in}
 use Rattle.encoder.proofs.Holding.{Holding, holding_start, holding_more, from_end, fed_back}
 use Rattle.encoder.proofs.Encoding.{encodes}
@@ -37,7 +36,7 @@ turn-requires g c =
     record {
       some = omega arith;
       read = omega arith;
-      factor = (fed_back f l _ _ _ (c.checks-checks.result - 1) c.loop-x.register x_in v_in c.opposite.ensures.within c.sum-c.ensures.within).1;
+      factor = (fed_back f l _ _ _ (c.checks-checks.result - 1) _ c.loop-x.register refl x_in v_in c.opposite.ensures.within c.sum-c.ensures.within).1;
       symbols = c.generator-g.ensures.within;
       held = v_in;
     }
@@ -49,29 +48,19 @@ loop-x-preserved g c =
     let code = shape c.args.over.now.code in
     let w = c.args.word.now in
     let m = drop code.checks w in
-    let b = code.first in
-    let r = code.checks - 1 in
     let n = length c.loop-x.yielded in
     let i = length m - 1 - n in
     let old = c.loop-x.register in
-    let new = c.turn.new.to in
-    let w_in : Within f.q w = word_in f l _ code.n w (g.met.F.Fixed.size c.args.over.now.field.now) c.requires in
-    let m_in = drop_in f l code.checks w w_in in
+    let r = length old - 1 in
+    let m_in = drop_in f l code.checks w (word_in f l _ code.n w (g.met.F.Fixed.size c.args.over.now.field.now) c.requires) in
     let t = YieldsList-turn (YieldsList-from_rev_slice m cc) c.loop-x.yielded _ c.loop-x.yielded_by _ _ c.in-Some.x c.in-Some.is c.next.ensures.steps in
     let p = from_end m _ _ t.0 t.1 in
     let low : n < length m = p.0 in
     let x_in : c.in-Some.x.now < f.q = rw p.1 (m_in _) in
-    let er : code.checks ≡ suc r = omega arith in
-    let et : c.checks-checks.result - 1 ≡ r = omega arith in
-    let en : length old - 1 ≡ r = omega arith in
-    let ei : length m - n ≡ suc i = omega arith in
-    let h : Holding f b (suc r) (suc i) m old = subst (λ k. Holding f b k (suc i) m old) er (subst (λ k. Holding f b code.checks k m old) ei c.loop-x.invariant) in
-    let fed = fed_back f l _ _ _ (c.checks-checks.result - 1) old x_in h.within c.opposite.ensures.within c.sum-c.ensures.within in
-    let t : Turned f c.sum-c.result r c.generator-g.result old new = subst (λ k. Turned f c.sum-c.result k c.generator-g.result old new) en c.turn.ensures in
-    subst (λ k. Holding f b code.checks k m new) (omega (arith, length_push c.loop-x.yielded c.in-Some.x))
-    (subst (λ k. Holding f b k i m new) (sym er)
-    (holding_more f l b r i c.sum-c.result c.in-Some.x.now c.generator-g.result m old new (subst (λ k. Generates f b k c.generator-g.result) er c.generator-g.ensures) m_in h (omega arith) p.1
-    (fed.0 ∙ ap (λ k. f.sum c.in-Some.x.now (f.opp (get_or old k 0))) et) t))
+    let fed = fed_back f l _ _ _ (c.checks-checks.result - 1) r old (omega arith) x_in c.loop-x.invariant.within c.opposite.ensures.within c.sum-c.ensures.within in
+    subst (λ k. Holding f code.first code.checks k m c.turn.new.to) (omega (arith, length_push c.loop-x.yielded c.in-Some.x))
+    (holding_more f l code.first code.checks r (length m - n) i c.sum-c.result c.in-Some.x.now c.generator-g.result m old c.turn.new.to
+    (omega arith) (omega arith) (omega arith) c.generator-g.ensures m_in c.loop-x.invariant p.1 fed.0 c.turn.ensures)
 
 pub returns : goal.returns
 returns g c =
