@@ -4,8 +4,6 @@
 
 ghost use Rattle.std.specs.Prelude.{◌≡◌, ◌<◌};
 ghost use Rattle.binary.specs.Polynomials.{product as multiplied, shifted as moved};
-ghost use Rattle.field.specs.Meaning.{pow};
-ghost use Rattle.field.specs.Tables.{turn};
 ghost use Rattle.f16.specs.Sixteen.{sixteen};
 ghost use Rattle.f16.specs.SixteenLemmas.{sixteen_laws};
 ghost use Rattle.std.proofs.Common.{rules};

@@ -2,8 +2,6 @@
 // Each question is answered for every number; what a number of 256 or more is answered stands at the trait.
 #![tactic(auto)]
 
-ghost use Rattle.std.specs.Prelude.{◌≡◌, ◌+◌, ◌<◌, ◌≤◌};
-ghost use Rattle.field.specs.Meaning.{pow};
 ghost use Rattle.f256.specs.Bytes.{bytes};
 ghost use Rattle.f256.specs.BytesLemmas.{bytes_laws};
 ghost use Rattle.std.proofs.Common.{rules};
