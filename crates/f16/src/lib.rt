@@ -29,7 +29,7 @@ const TURN: u16 = 15;
 const POWERS: [u8; 15] = [1, 2, 4, 8, 3, 6, 12, 11, 5, 10, 7, 14, 15, 13, 9];
 
 // The field itself, which holds nothing.
-#[derive(Clone, Copy)]
+#[derive(Clone, Copy, Debug, Default, PartialEq, Eq)]
 pub struct F16 {}
 
 // A symbol times x.

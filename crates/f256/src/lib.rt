@@ -21,7 +21,7 @@ const SYMBOLS: u32 = 256;
 const TURN: u32 = 255;
 
 // The field itself, which holds nothing.
-#[derive(Clone, Copy)]
+#[derive(Clone, Copy, Debug, Default, PartialEq, Eq)]
 pub struct F256 {}
 
 impl Field for F256 {
