@@ -41,6 +41,7 @@ pub fn powers<F: Fixed<Q, M>, const Q: u32, const M: u32>(
     let by = step % M;
     let mut e = start % M;
     for x in out.iter_mut() {
+        // By `as`, which is proved to lose nothing: `try_from` would test it once more for each place.
         *x = field.power(e as u16);
         e += by;
         if e >= M {

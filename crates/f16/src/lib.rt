@@ -4,8 +4,6 @@
 
 ghost use Rattle.std.specs.Prelude.{◌≡◌, ◌<◌};
 ghost use Rattle.binary.specs.Polynomials.{product as multiplied, shifted as moved};
-ghost use Rattle.field.specs.Meaning.{pow};
-ghost use Rattle.field.specs.Tables.{turn};
 ghost use Rattle.f16.specs.Sixteen.{sixteen};
 ghost use Rattle.f16.specs.SixteenLemmas.{sixteen_laws};
 ghost use Rattle.std.proofs.Common.{rules};
@@ -31,7 +29,7 @@ const TURN: u16 = 15;
 const POWERS: [u8; 15] = [1, 2, 4, 8, 3, 6, 12, 11, 5, 10, 7, 14, 15, 13, 9];
 
 // The field itself, which holds nothing.
-#[derive(Clone, Copy)]
+#[derive(Clone, Copy, Debug, Default, PartialEq, Eq)]
 pub struct F16 {}
 
 // A symbol times x.

@@ -2,8 +2,6 @@
 // Each question is answered for every number; what a number of 256 or more is answered stands at the trait.
 #![tactic(auto)]
 
-ghost use Rattle.std.specs.Prelude.{◌≡◌, ◌+◌, ◌<◌, ◌≤◌};
-ghost use Rattle.field.specs.Meaning.{pow};
 ghost use Rattle.f256.specs.Bytes.{bytes};
 ghost use Rattle.f256.specs.BytesLemmas.{bytes_laws};
 ghost use Rattle.std.proofs.Common.{rules};
@@ -23,7 +21,7 @@ const SYMBOLS: u32 = 256;
 const TURN: u32 = 255;
 
 // The field itself, which holds nothing.
-#[derive(Clone, Copy)]
+#[derive(Clone, Copy, Debug, Default, PartialEq, Eq)]
 pub struct F256 {}
 
 impl Field for F256 {

@@ -27,6 +27,7 @@ pub(super) fn logarithm(v: u32) -> Option<u32>
     ensures { MatchOption result (v < 256 → v ≡ 0) (λ i. (i < 255) × (pow bytes 2 i ≡ v) × (0 < v) × (v < 256)) }
 {
     if (1..SYMBOLS).contains(&v) {
+        // By `as`, since no `From` makes a usize of a u32.
         Some(u32::from(LOGARITHMS[(v - 1) as usize]))
     } else {
         None

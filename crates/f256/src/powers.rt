@@ -25,5 +25,6 @@ pub(super) fn power_of(i: u32) -> u32
     requires { i < 255 }
     ensures { result ≡ pow bytes 2 i }
 {
+    // By `as`, since no `From` makes a usize of a u32.
     u32::from(POWERS[i as usize])
 }

@@ -17,7 +17,7 @@ mod powers;
 const SYMBOLS: u32 = 929;
 
 // The field itself, which holds nothing.
-#[derive(Clone, Copy)]
+#[derive(Clone, Copy, Debug, Default, PartialEq, Eq)]
 pub struct F929 {}
 
 // The number below `n` whose product with `x` is 1 modulo `n`: Euclid's chain of remainders, and back.
