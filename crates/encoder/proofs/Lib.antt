@@ -5,6 +5,7 @@
 --   Dividing    what a division by the generator keeps
 --   Encoding    what encoding gives
 --   Summing     what the values of a remainder at the roots say of a word
+pub mod Writing
 pub mod Turns
 pub mod Generating
 pub mod Holding

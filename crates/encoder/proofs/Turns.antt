@@ -8,7 +8,7 @@ use Rattle.field.specs.Symbols.{Within}
 use Rattle.field.specs.Lifted.{lift, poly, sym_of}
 use Rattle.field.proofs.Symbols.{within_from}
 use Rattle.field.proofs.Parts.{put_high}
-use Rattle.field.proofs.Writing.{Written, written_more}
+use Rattle.encoder.proofs.Writing.{Written, written_more}
 use Rattle.field.proofs.Lifting as B
 use Rattle.algebra.proofs.Division as D
 use Rattle.code.specs.Words.{Word}
