@@ -46,7 +46,7 @@ fn main(rt: HostRuntime) -> io::Result<()> {
     fill(&mut g);
     let small = time_of(&rt, &g[0..32], 2000)?;
     let middle = time_of(&rt, &g[0..128], 200)?;
-    let large = time_of(&rt, &g[0..TERMS], 20)?;
+    let large = time_of(&rt, &g, 20)?;
     eprintln!(rt; "N =  32: {} ns", small)?;
     eprintln!(rt; "N = 128: {} ns, times {}", middle, middle / small.max(1))?;
     eprintln!(rt; "N = 512: {} ns, times {}", large, large / middle.max(1))

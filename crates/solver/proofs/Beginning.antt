@@ -14,6 +14,7 @@ use Rattle.solver.specs.BasisSteps.{IsKnown, Reached}
 use Rattle.solver.specs.Sides.{on}
 use Rattle.solver.specs.declared.Side.{Side}
 use Rattle.solver.specs.declared.Side.TheVariants.{Left, Right}
+use Rattle.solver.specs.declared.order.Order.{Order}
 use Rattle.solver.specs.declared.pair.Pair.{Pair}
 use Rattle.solver.specs.declared.steps.Basis.{Basis}
 use Rattle.solver.specs.declared.steps.Known.TheVariants as Known
@@ -84,8 +85,8 @@ module _ (f : Meaning) (w : Laws f) where
       ∙ ap (F.◌⊕◌ F.𝟙) (sym (C.o_add F _) ∙ F.add_neg F.𝟘) ∙ C.add_o F _)
       ∙ sym (discrepancy_is f w g hg 0 a h))
 
-pub reached_start : (f : Meaning) (w : Laws f) (g : List ℕ) (l m : ℕ) (b : Basis) → Within f.q g → Starts Left b.left → Starts Right b.right → b.known ≡ Known.Left 1 → Reached f g l m 0 b
-reached_start f w g l m b hg sa sb e = record {
-  held = λ v. held_start f v l m g b.left b.right sa sb;
+pub reached_start : (f : Meaning) (w : Laws f) (g : List ℕ) (o : Order) (b : Basis) → Within f.q g → Starts Left b.left → Starts Right b.right → b.known ≡ Known.Left 1 → Reached f g o 0 b
+reached_start f w g o b hg sa sb e = record {
+  held = λ v. held_start f v o.plus o.minus g b.left b.right sa sb;
   known = subst (IsKnown f 0 g b.left b.right) (sym e) (known_start f w g b.left hg sa);
 }

@@ -17,9 +17,6 @@ cut_same size b z i = elim (dec_lt i size) [
   | no h ↦ get_or_past (take size b) i 0 (simp length-take (omega arith)) ∙ sym (z i (omega arith))
 ]
 
-pub cut_in : (q size : ℕ) (b : List ℕ) → Within q b → ((i : ℕ) → size ≤ i → get_or b i 0 ≡ 0) → Within q (take size b)
-cut_in q size b h z i = rw (cut_same size b z i) (h i)
-
 module _ (f : Meaning) (w : Laws f) where
   -- a sum whose terms are 0 from size on
   sum_short : (n size : ℕ) (h : ℕ → ℕ) → ((i : ℕ) → h i < f.q) → ((i : ℕ) → size ≤ i → h i ≡ 0) → size ≤ n → sum_of f size h ≡ sum_of f n h

@@ -13,6 +13,7 @@ use Rattle.solver.specs.BasisSteps.{IsKnown, Reached}
 use Rattle.solver.specs.Sides.{on}
 use Rattle.solver.specs.declared.Side.{Side}
 use Rattle.solver.specs.declared.Side.TheVariants.{Left, Right}
+use Rattle.solver.specs.declared.order.Order.{Order}
 use Rattle.solver.specs.declared.pair.Pair.{Pair}
 use Rattle.solver.specs.declared.steps.Basis.{Basis as Two}
 use Rattle.solver.specs.declared.steps.Known.{Known}
@@ -150,22 +151,22 @@ ready f w g l m k a b hg lt few h Right =
     record { size = omega (arith, h.two.sized); top = omega arith; below = P.discrepancy_in f w g hg k b h.two; symbols = h.two.symbols }
 
 -- One turn in full: the lower pair is that on this side, both discrepancies are x and y, and one of them is known next.
-module _ (f : Meaning) (w : Laws f) (l m k : ℕ) (g : List ℕ) (b : Two) (a' b' : Pair) (x y : ℕ) (next : Known) (hg : Within f.q g) (h : Reached f g l m k b)
+module _ (f : Meaning) (w : Laws f) (o : Order) (k : ℕ) (g : List ℕ) (b : Two) (a' b' : Pair) (x y : ℕ) (next : Known) (hg : Within f.q g) (h : Reached f g o k b)
     (ex : x ≡ discrepancy_of f k g b.left) (ey : y ≡ discrepancy_of f k g b.right) where
-  pub reached_left : b.left.top + m ≤ b.right.top + l → Stepped f x y b.left b.right a' b' → ((x ≡ 0) × (next ≡ Known.Right y)) ⊎ ((x ≢ 0) × (next ≡ Known.Left x)) →
-      Reached f g l m (k + 1) record { left = a'; right = b'; known = next }
+  pub reached_left : b.left.top + o.minus ≤ b.right.top + o.plus → Stepped f x y b.left b.right a' b' → ((x ≡ 0) × (next ≡ Known.Right y)) ⊎ ((x ≢ 0) × (next ≡ Known.Left x)) →
+      Reached f g o (k + 1) record { left = a'; right = b'; known = next }
   reached_left low st e = record {
-    held = λ v. left_low f v l m k g b.left b.right a' b' hg (h.held v) x y ex ey low st;
+    held = λ v. left_low f v o.plus o.minus k g b.left b.right a' b' hg (h.held v) x y ex ey low st;
     known = elim e [
       | inl d ↦ subst (IsKnown f (k + 1) g a' b') (sym d.1) (known_high f w k g b.left b.right a' b' x y hg st (h.held w).two ey d.0)
       | inr d ↦ subst (IsKnown f (k + 1) g a' b') (sym d.1) (known_low f w k g b.left b.right a' b' x y hg st (h.held w).one ex d.0)
     ];
   }
 
-  pub reached_right : b.right.top + l < b.left.top + m → Stepped f y x b.right b.left b' a' → ((y ≡ 0) × (next ≡ Known.Left x)) ⊎ ((y ≢ 0) × (next ≡ Known.Right y)) →
-      Reached f g l m (k + 1) record { left = a'; right = b'; known = next }
+  pub reached_right : b.right.top + o.plus < b.left.top + o.minus → Stepped f y x b.right b.left b' a' → ((y ≡ 0) × (next ≡ Known.Left x)) ⊎ ((y ≢ 0) × (next ≡ Known.Right y)) →
+      Reached f g o (k + 1) record { left = a'; right = b'; known = next }
   reached_right low st e = record {
-    held = λ v. right_low f v l m k g b.left b.right a' b' hg (h.held v) y x ey ex low st;
+    held = λ v. right_low f v o.plus o.minus k g b.left b.right a' b' hg (h.held v) y x ey ex low st;
     known = elim e [
       | inl d ↦ subst (IsKnown f (k + 1) g a' b') (sym d.1) (known_high f w k g b.right b.left b' a' y x hg st (h.held w).one ex d.0)
       | inr d ↦ subst (IsKnown f (k + 1) g a' b') (sym d.1) (known_low f w k g b.right b.left b' a' y x hg st (h.held w).two ey d.0)

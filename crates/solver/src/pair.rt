@@ -11,7 +11,8 @@ use field::Field;
 pub(crate) const ROOM: usize = 513;
 
 // A pair of polynomials, the exponent of its leading term, and how many places of its halves are in use. The halves are
-// arrays with a size beside them, since a call takes no memory from the heap.
+// arrays with a size beside them, since a call takes no memory from the heap. That they hold symbols stands in clauses,
+// since a pair does not know its field.
 #[derive(Drop)]
 pub(crate) struct Pair {
     pub(crate) top: usize,

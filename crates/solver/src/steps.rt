@@ -98,8 +98,8 @@ impl Basis {
     // One turn: both discrepancies, one step, and the discrepancy that is known next.
     fn turn<F: Field>(&mut self, congruence: &Congruence<F>, k: usize)
         requires below { k < length congruence.now.g.now }
-        requires reached { Reached (F.Field.means congruence.now.field.now) congruence.now.g.now congruence.now.order.plus congruence.now.order.minus k self.old }
-        ensures { Reached (F.Field.means congruence.now.field.now) congruence.now.g.now congruence.now.order.plus congruence.now.order.minus (k + 1) self.new }
+        requires reached { Reached (F.Field.means congruence.now.field.now) congruence.now.g.now congruence.now.order k self.old }
+        ensures { Reached (F.Field.means congruence.now.field.now) congruence.now.g.now congruence.now.order (k + 1) self.new }
     {
         let (x, y) = self.discrepancies(congruence, k);
         let field = congruence.field;
@@ -126,8 +126,8 @@ impl Basis {
 
     // As many turns as g has symbols.
     fn run<F: Field>(&mut self, congruence: &Congruence<F>)
-        requires { Reached (F.Field.means congruence.now.field.now) congruence.now.g.now congruence.now.order.plus congruence.now.order.minus 0 self.old }
-        ensures { Reached (F.Field.means congruence.now.field.now) congruence.now.g.now congruence.now.order.plus congruence.now.order.minus (length congruence.now.g.now) self.new }
+        requires { Reached (F.Field.means congruence.now.field.now) congruence.now.g.now congruence.now.order 0 self.old }
+        ensures { Reached (F.Field.means congruence.now.field.now) congruence.now.g.now congruence.now.order (length congruence.now.g.now) self.new }
     {
         for k in 0..congruence.g.len() {
             self.turn(congruence, k);

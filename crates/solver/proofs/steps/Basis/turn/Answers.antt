@@ -46,7 +46,7 @@ returns-after-x-eq0 g c =
     let f = g.F.Field.means problem.field.now in
     let w = g.met.F.Field.lawful problem.field.now in
     let d = c.discrepancies-x.ensures in
-    reached_left f w _ _ c.args.k problem.g.now c.args.self.now _ _ _ _ _ problem.row c.requires.reached d.left d.right c.in-Left.ensures c.step.ensures
+    reached_left f w _ c.args.k problem.g.now c.args.self.now _ _ _ _ _ problem.row c.requires.reached d.left d.right c.in-Left.ensures c.step.ensures
     (elim c.if-x-eq0.branch [ then-x-eq0 w ↦ inl (w.if-x-eq0.true, w.self-is) | else-x-eq0 w ↦ inr (w.if-x-eq0.false, w.self-is) ])
 
 pub returns-after-y-eq0 : goal.returns-after-y-eq0
@@ -55,5 +55,5 @@ returns-after-y-eq0 g c =
     let f = g.F.Field.means problem.field.now in
     let w = g.met.F.Field.lawful problem.field.now in
     let d = c.discrepancies-x.ensures in
-    reached_right f w _ _ c.args.k problem.g.now c.args.self.now _ _ _ _ _ problem.row c.requires.reached d.left d.right c.in-Right.ensures c.step-in-Right.ensures
+    reached_right f w _ c.args.k problem.g.now c.args.self.now _ _ _ _ _ problem.row c.requires.reached d.left d.right c.in-Right.ensures c.step-in-Right.ensures
     (elim c.if-y-eq0.branch [ then-y-eq0 w ↦ inl (w.if-y-eq0.true, w.self-is) | else-y-eq0 w ↦ inr (w.if-y-eq0.false, w.self-is) ])

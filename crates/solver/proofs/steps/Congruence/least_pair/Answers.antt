@@ -9,7 +9,7 @@ run-requires g c =
     let problem = c.args.self.now in
     let field = problem.field.now in
     let e = c.first-basis.ensures in
-    reached_start (g.F.Field.means field) (g.met.F.Field.lawful field) problem.g.now _ _ c.first-basis.result problem.row e.left e.right e.known
+    reached_start (g.F.Field.means field) (g.met.F.Field.lawful field) problem.g.now _ c.first-basis.result problem.row e.left e.right e.known
 
 pub lower-side-requires : goal.lower-side-requires
 lower-side-requires g c =
