@@ -1,4 +1,5 @@
 // The bench: lines from standard input, an answer to each on standard output.
+// It is a program of its own, since `rt ci` runs a program on one stored input.
 #![tactic(auto)]
 
 use script::converse;

@@ -1,4 +1,5 @@
 // The bench on input from other people's hands: bytes that are no line.
+// It is a program of its own, since `rt ci` runs a program on one stored input.
 #![tactic(auto)]
 
 use script::converse;

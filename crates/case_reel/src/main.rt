@@ -1,4 +1,5 @@
 // The bench on a reel word: every letter and every refusal that a line can meet.
+// It is a program of its own, since `rt ci` runs a program on one stored input.
 #![tactic(auto)]
 
 use script::converse;

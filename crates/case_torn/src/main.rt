@@ -1,4 +1,5 @@
 // The bench on a published label torn up to the limit and restored, and then beyond it and refused.
+// It is a program of its own, since `rt ci` runs a program on one stored input.
 #![tactic(auto)]
 
 use script::converse;
