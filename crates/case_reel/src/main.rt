@@ -1,10 +1,10 @@
 // The bench on a reel word: every letter and every refusal that a line can meet.
+// It is a program of its own, since `rt ci` runs a program on one stored input.
 #![tactic(auto)]
 
-use script::converse;
+use script::console::converse;
 use std::io;
-use std::io::Read;
 
 fn main(rt: HostRuntime) -> io::Result<()> {
-    converse!(rt)
+    converse(&rt)
 }

@@ -4,8 +4,6 @@
 
 pub mod answer;
 pub mod buffer;
-mod console;
+pub mod console;
 pub mod desk;
 pub mod request;
-
-pub use text::answer::question_line;

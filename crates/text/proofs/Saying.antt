@@ -1,19 +1,13 @@
 -- What a line says, from its length, its second byte and what follows.
-use Rattle.std.proofs.Common.{◌≡◌, ℕ, ◌-◌, ◌<◌, ◌≤◌, List, [], ◌∷◌, length, get_or, take, drop, sym, refl, ap, ◌∙◌, subst, arith}
+use Rattle.std.proofs.Common.{◌≡◌, ℕ, ◌-◌, ◌≤◌, List, [], ◌∷◌, length, get_or, take, drop, sym, ap, ◌∙◌, subst, arith}
 use Rattle.std.proofs.lemmas.List.{take_all}
 use Rattle.text.specs.Lines.{Spells, SpellsNothing, Says, SaysNothing, SaysOne}
-use Rattle.text.proofs.Reading.{spells_one, spells_none, nothing_stray}
+use Rattle.text.proofs.Reading.{spells_one, nothing_stray}
 
 pub says_one : SaysOne
 says_one line c d ms ns s t =
     let same : s.text ≡ t.text = cc (s.whole, t.whole) in
     (cc (s.whole, t.whole), spells_one t.text ms ns (subst (λ (l : List ℕ). Spells l ms) same s.spells) t.spells)
-
--- a line of one letter
-pub says_letter : (line ns : List ℕ) → length line ≡ 1 → length line ≤ 6000 → ns ≡ [] → Says line (get_or line 0 0) ns
-says_letter [] ns one short none = absurd (omega arith)
-says_letter (c ∷ []) ns one short none = record { text = []; whole = refl; spells = subst (Spells []) (sym none) spells_none; short = short }
-says_letter (c ∷ d ∷ ds) ns one short none = absurd (omega arith)
 
 -- a letter, a space and the rest
 abbrev pub rest : List ℕ → List ℕ
@@ -35,9 +29,6 @@ nothing_numbers line two space none c ns s =
     none ns (subst (λ (l : List ℕ). Spells l ns) same s.spells)
 
 -- any other line
-pub nothing_long : (line : List ℕ) → 6000 < length line → SaysNothing line
-nothing_long line long c ns s = omega (arith, s.short)
-
 pub nothing_other : (line : List ℕ) → (length line ≡ 1 → ⊥) → (2 ≤ length line → get_or line 1 0 ≡ 32 → ⊥) → SaysNothing line
 nothing_other line one space c ns s = other s.text s.whole s.spells where
   other : (text : List ℕ) → line ≡ c ∷ text → Spells text ns → ⊥
