@@ -1,5 +1,5 @@
 // The least pair.
-use crate::cases::Cases;
+use crate::cases::{Batch, Cases};
 use crate::random::Random;
 use crate::tally::{Outcome, Row, Tally};
 use field::Fixed;
@@ -168,16 +168,15 @@ fn any_request(cases: &mut Cases, most: u32) -> Result<Request, AllocError> {
     })
 }
 
-// Calls on at most `most` coefficients.
+// Calls on a few coefficients, or more.
 pub fn run<F: Fixed<Q, M>, const Q: u32, const M: u32>(
     field: &F,
     cases: &mut Cases,
-    most: u32,
-    count: u32,
+    batch: Batch,
     tally: &mut Tally,
 ) -> Result<(), AllocError> {
-    for _ in 0..count {
-        let asked = any_request(cases, most)?;
+    for _ in 0..batch.count {
+        let asked = any_request(cases, batch.most)?;
         let mut after = asked.buffers.copied(cases.heap)?;
         let answer = first_way(field, &asked, &mut after);
         let first = Outcome { answer, after };
