@@ -44,6 +44,19 @@ const SOLVED_MORE: Batch = Batch {
     count: 1000,
 };
 
+// The words corrected beside a search among all words, over each field, of codes that have few.
+const SEARCHED_RESIDUES: Batch = Batch { most: 2, count: 20 };
+
+const SEARCHED_BYTES: Batch = Batch {
+    most: 2,
+    count: 200,
+};
+
+const SEARCHED_NIBBLES: Batch = Batch {
+    most: 4,
+    count: 600,
+};
+
 // The comparisons of each kind.
 #[derive(Drop)]
 struct Tallies {
@@ -119,28 +132,26 @@ fn main(rt: HostRuntime) -> io::Result<()> {
     let heap = rt.alloc();
     let mut random = Random::new(SEED);
     let mut all = Tallies::new(heap);
-    let searched = Batch { most: 2, count: 20 };
     run(
         &F929 {},
         Kind::Residues,
-        searched,
+        SEARCHED_RESIDUES,
         heap,
         &mut random,
         &mut all,
     )?;
-    let searched = Batch {
-        most: 2,
-        count: 200,
-    };
-    run(&F256 {}, Kind::Bytes, searched, heap, &mut random, &mut all)?;
-    let searched = Batch {
-        most: 4,
-        count: 600,
-    };
+    run(
+        &F256 {},
+        Kind::Bytes,
+        SEARCHED_BYTES,
+        heap,
+        &mut random,
+        &mut all,
+    )?;
     run(
         &F16 {},
         Kind::Nibbles,
-        searched,
+        SEARCHED_NIBBLES,
         heap,
         &mut random,
         &mut all,

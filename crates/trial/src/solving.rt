@@ -7,6 +7,7 @@ use second::arithmetic::Arithmetic;
 use second::pairs::{Pair, Term, least};
 use second::places::{at, put};
 use second::rules::check_request;
+use solver::{LeastPair, Side, solve};
 use std::alloc::{AllocError, Global};
 
 // What a call of the solver is given, but for the field: the coefficients, their number, the order, and the two buffers.
@@ -35,16 +36,6 @@ impl Buffers {
     }
 }
 
-// The half of a pair that has the leading term.
-#[derive(Clone, Copy, PartialEq, Eq, Debug)]
-pub enum Side {
-    Left,
-    Right,
-}
-
-// How many coefficients each half of a least pair has, and the side of its leading term.
-type Counts = (usize, usize, Side);
-
 // How many coefficients there are up to the last that is not 0.
 fn count(xs: &[u32]) -> usize {
     xs.iter()
@@ -57,11 +48,10 @@ fn first_way<F: Fixed<Q, M>, const Q: u32, const M: u32>(
     field: &F,
     asked: &Request,
     after: &mut Buffers,
-) -> Result<Option<Counts>, Row> {
+) -> Result<Option<LeastPair>, Row> {
+    let Request { g, n, r, .. } = asked;
     let Buffers { left, right } = after;
-    let (left, right, side) = solver::solve(field, &asked.g, asked.n, asked.r, left, right)?;
-    let side = if side == 0 { Side::Left } else { Side::Right };
-    Ok(Some((left as usize, right as usize, side)))
+    Ok(Some(solve(field, g, *n, *r, left, right)?))
 }
 
 // Writes a half over the front of a buffer.
@@ -72,14 +62,17 @@ fn write_over(half: &[u32], buffer: &mut [u32]) {
 }
 
 // Answers by a pair.
-fn told(pair: &Pair, after: &mut Buffers) -> Counts {
+fn told(pair: &Pair, after: &mut Buffers) -> LeastPair {
     write_over(&pair.left, &mut after.left);
     write_over(&pair.right, &mut after.right);
-    let side = match pair.leading {
-        Term::Left(_) => Side::Left,
-        Term::Right(_) => Side::Right,
-    };
-    (count(&pair.left), count(&pair.right), side)
+    LeastPair {
+        left: count(&pair.left),
+        right: count(&pair.right),
+        leading: match pair.leading {
+            Term::Left(_) => Side::Left,
+            Term::Right(_) => Side::Right,
+        },
+    }
 }
 
 // By the second implementation; nothing where it finds no pair at all.
@@ -87,7 +80,7 @@ fn second_way(
     second: &Arithmetic,
     asked: &Request,
     after: &mut Buffers,
-) -> Result<Result<Option<Counts>, Row>, AllocError> {
+) -> Result<Result<Option<LeastPair>, Row>, AllocError> {
     let Request { g, n, r, buffers } = asked;
     if let Err(rule) = check_request(second, g, *n, *r, buffers.left.len(), buffers.right.len()) {
         return Ok(Err(Row::from(rule)));
