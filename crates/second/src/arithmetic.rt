@@ -1,6 +1,6 @@
 // The three fields: residues by division, polynomials by a long product and a long division, reciprocals by search.
 ghost use Rattle.std.specs.Prelude.{◌≡◌, ◌+◌, ◌<◌};
-ghost use Rattle.second.specs.Sizes.{size, step};
+ghost use Rattle.second.specs.Sizes.{size, step, sum, opposite};
 
 use crate::places::at;
 use std::alloc::{AllocError, Global};
@@ -141,7 +141,8 @@ impl Arithmetic {
 
     // The sum of two symbols; 0 where a number is no symbol.
     pub fn sum(&self, x: u32, y: u32) -> u32
-        ensures { result < size self.now.kind }
+        ensures symbol { result < size self.now.kind }
+        ensures value { result ≡ sum self.now.kind x y }
     {
         let q = self.symbols();
         if x >= q || y >= q {
@@ -169,7 +170,8 @@ impl Arithmetic {
 
     // The opposite of a symbol; 0 where the number is no symbol.
     pub fn opposite(&self, x: u32) -> u32
-        ensures { result < size self.now.kind }
+        ensures symbol { result < size self.now.kind }
+        ensures value { result ≡ opposite self.now.kind x }
     {
         let q = self.symbols();
         if x >= q {
@@ -193,7 +195,8 @@ impl Arithmetic {
 
     // One number less another.
     pub(crate) fn difference(&self, x: u32, y: u32) -> u32
-        ensures { result < size self.now.kind }
+        ensures symbol { result < size self.now.kind }
+        ensures value { result ≡ sum self.now.kind x (opposite self.now.kind y) }
     {
         self.sum(x, self.opposite(y))
     }

@@ -21,9 +21,9 @@ struct Request {
 
 // What the buffers of a call hold.
 #[derive(PartialEq, Debug, Drop)]
-pub struct Buffers {
-    pub left: Vec<u32>,
-    pub right: Vec<u32>,
+struct Buffers {
+    left: Vec<u32>,
+    right: Vec<u32>,
 }
 
 impl Buffers {
