@@ -1,9 +1,10 @@
 // The three fields: residues by division, polynomials by a long product and a long division, reciprocals by search.
 ghost use Rattle.std.specs.Prelude.{◌≡◌, ◌+◌, ◌<◌};
-ghost use Rattle.second.specs.Sizes.{size};
+ghost use Rattle.second.specs.Sizes.{size, step, sum, opposite};
 
 use crate::places::at;
 use std::alloc::{AllocError, Global};
+use std::iter;
 
 // Which field it is.
 #[derive(Clone, Copy)]
@@ -18,7 +19,7 @@ pub enum Kind {
 
 impl Kind {
     // How many symbols there are.
-    pub fn symbols(&self) -> u32
+    fn symbols(&self) -> u32
         ensures { result ≡ size self.now }
     {
         match self {
@@ -29,7 +30,9 @@ impl Kind {
     }
 
     // The step element, whose powers are the places of a code.
-    fn step(&self) -> u32 {
+    fn step(&self) -> u32
+        ensures { result ≡ step self.now }
+    {
         match self {
             Kind::Residues => 3,
             Kind::Bytes | Kind::Nibbles => 2,
@@ -83,24 +86,17 @@ pub struct Arithmetic {
 
 // Every product of two symbols, row after row.
 fn product_table(heap: Global, kind: Kind) -> Result<Vec<u32>, AllocError> {
-    let mut out = Vec::new(heap);
-    for x in 0..kind.symbols() {
-        for y in 0..kind.symbols() {
-            out.push(kind.product(x, y))?;
-        }
-    }
-    Ok(out)
+    (0..kind.symbols())
+        .flat_map(|x| (0..kind.symbols()).map(move |y| kind.product(x, y)))
+        .collect(heap)
 }
 
 // The powers of the step element, by repeated products.
 fn power_table(heap: Global, kind: Kind) -> Result<Vec<u32>, AllocError> {
-    let mut out = Vec::new(heap);
-    let mut power = 1;
-    for _ in 1..kind.symbols() {
-        out.push(power)?;
-        power = kind.product(power, kind.step());
-    }
-    Ok(out)
+    let turn = kind.symbols() - 1;
+    iter::successors(Some(1), |power| Some(kind.product(*power, kind.step())))
+        .take(turn as usize)
+        .collect(heap)
 }
 
 impl Arithmetic {
@@ -137,13 +133,16 @@ impl Arithmetic {
     }
 
     // The step element.
-    pub fn step(&self) -> u32 {
+    pub fn step(&self) -> u32
+        ensures { result ≡ step self.now.kind }
+    {
         self.kind.step()
     }
 
     // The sum of two symbols; 0 where a number is no symbol.
     pub fn sum(&self, x: u32, y: u32) -> u32
-        ensures { result < size self.now.kind }
+        ensures symbol { result < size self.now.kind }
+        ensures value { result ≡ sum self.now.kind x y }
     {
         let q = self.symbols();
         if x >= q || y >= q {
@@ -171,7 +170,8 @@ impl Arithmetic {
 
     // The opposite of a symbol; 0 where the number is no symbol.
     pub fn opposite(&self, x: u32) -> u32
-        ensures { result < size self.now.kind }
+        ensures symbol { result < size self.now.kind }
+        ensures value { result ≡ opposite self.now.kind x }
     {
         let q = self.symbols();
         if x >= q {
@@ -195,7 +195,8 @@ impl Arithmetic {
 
     // One number less another.
     pub(crate) fn difference(&self, x: u32, y: u32) -> u32
-        ensures { result < size self.now.kind }
+        ensures symbol { result < size self.now.kind }
+        ensures value { result ≡ sum self.now.kind x (opposite self.now.kind y) }
     {
         self.sum(x, self.opposite(y))
     }

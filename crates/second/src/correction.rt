@@ -90,14 +90,15 @@ impl Received {
         field: &Arithmetic,
         below: &[u32],
     ) -> Result<Option<Vec<usize>>, AllocError> {
-        let mut out = Vec::new(field.heap);
-        for (i, mark) in self.marks.iter().enumerate() {
-            if *mark || value(field, below, field.power(i as u64)) == 0 {
-                out.push(i)?;
-            }
-        }
+        let found: Vec<usize> = self
+            .marks
+            .iter()
+            .enumerate()
+            .filter(|(i, mark)| **mark || value(field, below, field.power(*i as u64)) == 0)
+            .map(|(i, _)| i)
+            .collect(field.heap)?;
         let wanted = below.len().saturating_add(self.marked());
-        Ok(Some(out).filter(|found| found.len() == wanted))
+        Ok(Some(found).filter(|found| found.len() == wanted))
     }
 
     // The word with the amounts taken off at the positions.

@@ -1,5 +1,6 @@
 // A second implementation, for tests alone: plain arithmetic, linear algebra, and the rules of a bay written out again.
-// It is slow and simple, shares nothing with what it is held against, and is proved only to be safe and to end.
+// It is slow and simple, and shares nothing with what it is held against. It is proved to be safe and to end; what it answers
+// is proved only of sums, opposites and the rules, and for the rest it is what the library is compared with.
 #![tactic(auto)]
 
 pub mod arithmetic;

@@ -79,6 +79,7 @@ fn below(
     leading: Term,
 ) -> Result<Option<Vec<u32>>, AllocError> {
     let mut equations = Vec::new(field.heap);
+    // One equation for each coefficient of a − b·g: k is an exponent, and no place in a row.
     for k in 0..g.len() {
         let shares = lower.iter().map(|term| term.share(field, g, k));
         let mut equation: Vec<u32> = shares.collect(field.heap)?;

@@ -1,4 +1,8 @@
 // The refusal table, apart from any bay: of the rows that a call meets, the topmost.
+ghost use Rattle.std.specs.Prelude.{◌≡◌};
+ghost use Rattle.second.specs.Sizes.{size};
+ghost use Rattle.second.specs.Rules.{number, are_symbols, shape_rule, word_rule, request_rule};
+
 use crate::arithmetic::Arithmetic;
 use crate::words::Shape;
 
@@ -20,22 +24,24 @@ pub enum Rule {
 
 impl Rule {
     // The number of the row.
-    pub fn number(&self) -> u32 {
+    pub fn number(&self) -> u32
+        ensures { result ≡ number self.now }
+    {
         *self as u32
     }
 }
 
-// That each number is a symbol.
-fn check_symbols(field: &Arithmetic, xs: &[u32]) -> Result<(), Rule> {
-    if xs.iter().all(|x| *x < field.symbols()) {
-        Ok(())
-    } else {
-        Err(Rule::Symbol)
-    }
+// Whether each number is one of q symbols.
+fn are_symbols(xs: &[u32], q: u32) -> bool
+    ensures { result ≡ are_symbols q xs.now }
+{
+    xs.iter().all(|x| *x < q)
 }
 
 // That three numbers are a code.
-fn check_shape(shape: Shape) -> Result<(), Rule> {
+fn check_shape(shape: Shape) -> Result<(), Rule>
+    ensures { result ≡ shape_rule shape }
+{
     if shape.n < 2 || shape.n > 928 {
         Err(Rule::Positions)
     } else if shape.checks == 0 || shape.checks >= shape.n || shape.checks > 512 {
@@ -46,12 +52,9 @@ fn check_shape(shape: Shape) -> Result<(), Rule> {
 }
 
 // That three numbers are a code over a field, and that it has this word, with a mark or none for each of `marked` positions.
-pub fn check_word(
-    field: &Arithmetic,
-    shape: Shape,
-    word: &[u32],
-    marked: usize,
-) -> Result<(), Rule> {
+pub fn check_word(field: &Arithmetic, shape: Shape, word: &[u32], marked: usize) -> Result<(), Rule>
+    ensures { result ≡ word_rule (size field.now.kind) shape word.now marked }
+{
     check_shape(shape)?;
     if shape.n > field.turn() {
         Err(Rule::PastTurn)
@@ -61,8 +64,10 @@ pub fn check_word(
         Err(Rule::Count)
     } else if marked != shape.n as usize {
         Err(Rule::Map)
+    } else if !are_symbols(word, field.symbols()) {
+        Err(Rule::Symbol)
     } else {
-        check_symbols(field, word)
+        Ok(())
     }
 }
 
@@ -74,13 +79,15 @@ pub fn check_request(
     r: i32,
     left: usize,
     right: usize,
-) -> Result<(), Rule> {
+) -> Result<(), Rule>
+    ensures { result ≡ request_rule (size field.now.kind) g.now n r left right }
+{
     let least = n as usize + 1;
     if g.len() != n as usize {
-        return Err(Rule::Count);
-    }
-    check_symbols(field, g)?;
-    if left < least || right < least {
+        Err(Rule::Count)
+    } else if !are_symbols(g, field.symbols()) {
+        Err(Rule::Symbol)
+    } else if left < least || right < least {
         Err(Rule::Buffer)
     } else if n == 0 || n > 512 {
         Err(Rule::Terms)

@@ -13,6 +13,13 @@ const EDGES: [u32; 18] = [
 // The most symbols that a word is made of: more than any code has.
 const MOST: u32 = 1000;
 
+// How many cases there are of one kind, and how large they are at most.
+#[derive(Clone, Copy)]
+pub struct Batch {
+    pub most: u32,
+    pub count: u32,
+}
+
 // What the cases over one field are made of: random numbers, the second implementation of the field, and memory.
 #[derive(Drop)]
 pub struct Cases<'a> {

@@ -1,6 +1,6 @@
 // Correcting a word with its marks.
 
-use crate::cases::Cases;
+use crate::cases::{Batch, Cases};
 use crate::proved;
 use crate::random::Random;
 use crate::tally::{Outcome, Row, Tally};
@@ -151,22 +151,15 @@ pub fn run<F: Fixed<Q, M>, const Q: u32, const M: u32>(
     Ok(())
 }
 
-// Codes that are short enough that all their words can be gone through, and how many of their words are corrected.
-#[derive(Clone, Copy)]
-pub struct Few {
-    pub longest: u32,
-    pub words: u32,
-}
-
-// Words of short codes, beside a search among all words.
+// Words of codes that are short enough to go through all their words, beside such a search.
 pub fn run_all_words<F: Fixed<Q, M>, const Q: u32, const M: u32>(
     field: &F,
     cases: &mut Cases,
-    few: Few,
+    batch: Batch,
     tally: &mut Tally,
 ) -> Result<(), AllocError> {
-    for _ in 0..few.words {
-        let n = cases.random.between(2, few.longest);
+    for _ in 0..batch.count {
+        let n = cases.random.between(2, batch.most);
         let checks = cases.random.between(1, n.saturating_sub(1));
         let first = cases.random.below(cases.second.turn());
         let got = damaged_codeword(cases, Shape { n, checks, first })?;

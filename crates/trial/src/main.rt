@@ -2,8 +2,7 @@
 // It prints how many cases of each kind there were and in how many the two differ, and the first of those in full.
 #![tactic(auto)]
 
-use cases::Cases;
-use correcting::Few;
+use cases::{Batch, Cases};
 use f16::F16;
 use f256::F256;
 use f929::F929;
@@ -34,14 +33,29 @@ const ENCODED: u32 = 10000;
 
 const CORRECTED: u32 = 20000;
 
-// How many calls of the solver there are over each field, on few coefficients and on more.
-const FEW: u32 = 8;
+// The calls of the solver over each field, on few coefficients and on more.
+const SOLVED_FEW: Batch = Batch {
+    most: 8,
+    count: 20000,
+};
 
-const SOLVED_FEW: u32 = 20000;
+const SOLVED_MORE: Batch = Batch {
+    most: 24,
+    count: 1000,
+};
 
-const MORE: u32 = 24;
+// The words corrected beside a search among all words, over each field, of codes that have few.
+const SEARCHED_RESIDUES: Batch = Batch { most: 2, count: 20 };
 
-const SOLVED_MORE: u32 = 1000;
+const SEARCHED_BYTES: Batch = Batch {
+    most: 2,
+    count: 200,
+};
+
+const SEARCHED_NIBBLES: Batch = Batch {
+    most: 4,
+    count: 600,
+};
 
 // The comparisons of each kind.
 #[derive(Drop)]
@@ -89,11 +103,11 @@ impl fmt::Display for Tallies {
     }
 }
 
-// All comparisons over one field.
+// All comparisons over one field, `searched` being those beside a search among all words.
 fn run<F: Fixed<Q, M>, const Q: u32, const M: u32>(
     field: &F,
     kind: Kind,
-    few: Few,
+    searched: Batch,
     heap: Global,
     random: &mut Random,
     all: &mut Tallies,
@@ -108,37 +122,39 @@ fn run<F: Fixed<Q, M>, const Q: u32, const M: u32>(
     questions::run(field, &second, &mut all.questions)?;
     sums::run(field, cases, TESTED, &mut all.sums)?;
     encoding::run(field, cases, ENCODED, &mut all.encoding)?;
-    solving::run(field, cases, FEW, SOLVED_FEW, &mut all.solving)?;
-    solving::run(field, cases, MORE, SOLVED_MORE, &mut all.solving)?;
+    solving::run(field, cases, SOLVED_FEW, &mut all.solving)?;
+    solving::run(field, cases, SOLVED_MORE, &mut all.solving)?;
     correcting::run(field, cases, CORRECTED, &mut all.correcting)?;
-    correcting::run_all_words(field, cases, few, &mut all.seeking)
+    correcting::run_all_words(field, cases, searched, &mut all.seeking)
 }
 
 fn main(rt: HostRuntime) -> io::Result<()> {
     let heap = rt.alloc();
     let mut random = Random::new(SEED);
-    let mut tallies = Tallies::new(heap);
-    let few = Few {
-        longest: 2,
-        words: 20,
-    };
+    let mut all = Tallies::new(heap);
     run(
         &F929 {},
         Kind::Residues,
-        few,
+        SEARCHED_RESIDUES,
         heap,
         &mut random,
-        &mut tallies,
+        &mut all,
     )?;
-    let few = Few {
-        longest: 2,
-        words: 200,
-    };
-    run(&F256 {}, Kind::Bytes, few, heap, &mut random, &mut tallies)?;
-    let few = Few {
-        longest: 4,
-        words: 600,
-    };
-    run(&F16 {}, Kind::Nibbles, few, heap, &mut random, &mut tallies)?;
-    println!(rt; "{tallies}")
+    run(
+        &F256 {},
+        Kind::Bytes,
+        SEARCHED_BYTES,
+        heap,
+        &mut random,
+        &mut all,
+    )?;
+    run(
+        &F16 {},
+        Kind::Nibbles,
+        SEARCHED_NIBBLES,
+        heap,
+        &mut random,
+        &mut all,
+    )?;
+    println!(rt; "{all}")
 }

@@ -23,7 +23,7 @@ impl Random {
     // A number below n, and 0 where there is none.
     pub fn below(&mut self, n: u32) -> u32 {
         let x = self.next();
-        if n == 0 { 0 } else { (x % n as u64) as u32 }
+        if n == 0 { 0 } else { (x % u64::from(n)) as u32 }
     }
 
     // A number from low to high, both possible.

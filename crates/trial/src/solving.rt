@@ -1,5 +1,5 @@
 // The least pair.
-use crate::cases::Cases;
+use crate::cases::{Batch, Cases};
 use crate::random::Random;
 use crate::tally::{Outcome, Row, Tally};
 use field::Fixed;
@@ -21,9 +21,9 @@ struct Request {
 
 // What the buffers of a call hold.
 #[derive(PartialEq, Debug, Drop)]
-pub struct Buffers {
-    pub left: Vec<u32>,
-    pub right: Vec<u32>,
+struct Buffers {
+    left: Vec<u32>,
+    right: Vec<u32>,
 }
 
 impl Buffers {
@@ -49,8 +49,9 @@ fn first_way<F: Fixed<Q, M>, const Q: u32, const M: u32>(
     asked: &Request,
     after: &mut Buffers,
 ) -> Result<Option<LeastPair>, Row> {
+    let Request { g, n, r, .. } = asked;
     let Buffers { left, right } = after;
-    Ok(Some(solve(field, &asked.g, asked.n, asked.r, left, right)?))
+    Ok(Some(solve(field, g, *n, *r, left, right)?))
 }
 
 // Writes a half over the front of a buffer.
@@ -157,16 +158,15 @@ fn any_request(cases: &mut Cases, most: u32) -> Result<Request, AllocError> {
     })
 }
 
-// Calls on at most `most` coefficients.
+// Calls on a few coefficients, or more.
 pub fn run<F: Fixed<Q, M>, const Q: u32, const M: u32>(
     field: &F,
     cases: &mut Cases,
-    most: u32,
-    count: u32,
+    batch: Batch,
     tally: &mut Tally,
 ) -> Result<(), AllocError> {
-    for _ in 0..count {
-        let asked = any_request(cases, most)?;
+    for _ in 0..batch.count {
+        let asked = any_request(cases, batch.most)?;
         let mut after = asked.buffers.copied(cases.heap)?;
         let answer = first_way(field, &asked, &mut after);
         let first = Outcome { answer, after };

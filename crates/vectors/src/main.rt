@@ -174,6 +174,7 @@ fn try_line(rt: &HostRuntime, numbers: &[u32], tallies: &mut Tallies) -> io::Res
         return println!(rt; "a line with no code");
     };
     let vector = Vector { code, word };
+    // The number in the line names the field, whose type all the rest takes.
     match *q {
         929 => try_word(&F929 {}, vector, &mut tallies.labels, heap)?,
         256 => try_word(&F256 {}, vector, &mut tallies.reels, heap)?,
