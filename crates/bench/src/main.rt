@@ -2,9 +2,10 @@
 // It is a program of its own, since `rt ci` runs a program on one stored input.
 #![tactic(auto)]
 
-use script::console::converse;
+use script::converse;
 use std::io;
+use std::io::Read;
 
 fn main(rt: HostRuntime) -> io::Result<()> {
-    converse(&rt)
+    converse!(rt)
 }

@@ -4,6 +4,8 @@
 
 pub mod answer;
 pub mod buffer;
-pub mod console;
+mod console;
 pub mod desk;
 pub mod request;
+
+pub use text::answer::question_line;
