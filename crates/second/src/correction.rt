@@ -145,16 +145,15 @@ impl Received {
         Ok(None)
     }
 
-    // The codeword in reach, by going through all words of a code that has few.
-    pub fn by_trying(&self, field: &Arithmetic) -> Result<Option<Vec<u32>>, AllocError> {
+    // The codeword in reach, by going through all words of a code that has few: from `tried`, a word of zeros, on.
+    pub fn by_trying(&self, field: &Arithmetic, mut tried: Vec<u32>) -> Option<Vec<u32>> {
         let q = field.symbols();
-        let mut tried = vec![in field.heap; 0; self.word.len()]?;
         for _ in 0..u64::from(q).saturating_pow(self.shape.n) {
             if self.reaches(field, &tried) {
-                return Ok(Some(tried));
+                return Some(tried);
             }
             advance(&mut tried, q);
         }
-        Ok(None)
+        None
     }
 }
