@@ -12,10 +12,10 @@ fn update<S: Fn(u32, u32) -> u32>(partners: &[u32], row: &mut [u32], step: S)
     ensures done { (i : ℕ) → i < length partners.now → i < length row.old → S.post step (slice_index partners.now i) (slice_index row.old i) (slice_index row.new i) }
     ensures rest { (i : ℕ) → length partners.now ≤ i → slice_index row.new i ≡ slice_index row.old i }
 {
-    // By index: a proof knows nothing of what is written through `row.iter_mut().zip(partners)`.
+    // Not by `zip`, after which a proof knows nothing of what was written.
     let size = partners.len().min(row.len());
-    for i in 0..size {
-        row[i] = step(partners[i], row[i]);
+    for (i, place) in row[..size].iter_mut().enumerate() {
+        *place = step(partners[i], *place);
     }
 }
 

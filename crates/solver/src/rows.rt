@@ -23,9 +23,8 @@ pub(crate) fn scale_into<F: Field>(field: &F, c: u32, from: &[u32], to: &mut [u3
     requires read { Within (F.Field.means field.now).q from.now }
     ensures { Scaled (F.Field.means field.now) c (length from.now) from.now to.old to.new }
 {
-    // By index, since a proof knows nothing of what is written through `iter_mut` beside a second row.
-    for (i, x) in from.iter().enumerate() {
-        to[i] = field.product(c, *x);
+    for (i, place) in to[..from.len()].iter_mut().enumerate() {
+        *place = field.product(c, from[i]);
     }
 }
 

@@ -165,7 +165,13 @@ pub fn run_all_words<F: Fixed<Q, M>, const Q: u32, const M: u32>(
         let got = damaged_codeword(cases, Shape { n, checks, first })?;
         let second = cases.second;
         let zeros = vec![in cases.heap; 0; got.word.len()]?;
-        compare(field, cases, &got, || Ok(got.by_trying(second, zeros)), tally)?;
+        compare(
+            field,
+            cases,
+            &got,
+            || Ok(got.by_trying(second, zeros)),
+            tally,
+        )?;
     }
     Ok(())
 }
