@@ -1,6 +1,5 @@
 // The search for the codeword in reach.
 ghost use Rattle.std.specs.Prelude.{◌≡◌, ◌≤◌, length, is_ok, IfErr};
-ghost use Rattle.field.specs.Symbols.{all_below};
 ghost use Rattle.code.specs.Shape.{shape};
 ghost use Rattle.code.specs.Refusals.{number};
 ghost use Rattle.code.specs.Words.{marked};
@@ -9,6 +8,7 @@ ghost use Rattle.corrector.specs.SearchSteps.{Modifies, Attempted, Repaired, Fou
 use crate::pair::Pair;
 use crate::received::Received;
 use crate::syndromes::{modify, write_syndromes};
+use code::word::is_below;
 use code::{Code, Refusal};
 use field::Fixed;
 use solver::solve;
@@ -74,14 +74,15 @@ impl<'a, F: Fixed<Q, M>, const Q: u32, const M: u32> Received<'a, F, Q, M> {
             return Err(Refusal::OutOfReach);
         }
         write_syndromes(&self.over, self.word, row);
-        if is_zero(row) {
+        // 0 is the only number below 1.
+        if is_below(row, 1) {
             out.copy_from_slice(self.word);
             return Ok(());
         }
         modify(self.over.field, self.erased, row);
         self.repair(s, row, out)?;
         write_syndromes(&self.over, out, row);
-        if !is_zero(row) {
+        if !is_below(row, 1) {
             return Err(Refusal::OutOfReach);
         }
         Ok(())
@@ -97,11 +98,4 @@ impl<'a, F: Fixed<Q, M>, const Q: u32, const M: u32> Received<'a, F, Q, M> {
         let checks = self.over.code.checks() as usize;
         self.find_with(&mut row[..checks], out)
     }
-}
-
-// Whether all syndromes are 0: exactly then they are those of a codeword.
-fn is_zero(syndromes: &[u32]) -> bool
-    ensures { result ≡ all_below 1 syndromes.now }
-{
-    syndromes.iter().all(|syndrome| *syndrome < 1)
 }

@@ -15,8 +15,8 @@ write_syndromes-requires g c =
     let inside : Within g.row.Q self.word.now = within_from g.row.Q self.word.now (omega (arith, size, (g.met.F.Field.lawful field).q_low)) self.symbols in
     (omega arith, (c.requires.syndromes, inside))
 
-pub returns-then-is_zero-clause-found : goal.returns-then-is_zero-clause-found
-returns-then-is_zero-clause-found g c =
+pub returns-then-is_below-clause-found : goal.returns-then-is_below-clause-found
+returns-then-is_below-clause-found g c =
     let self = c.args.self.now in
     let field = self.over.field.now in
     let f = g.F.Field.means field in
@@ -27,7 +27,7 @@ returns-then-is_zero-clause-found g c =
     let w = self.word.now in
     let erased = self.erased.now in
     let S = c.write_syndromes.new.syndromes in
-    let zero : all_below 1 S ≡ true = sym c.is_zero.ensures ∙ c.if-is_zero.true in
+    let zero : all_below 1 S ≡ true = sym c.is_below.ensures ∙ c.if-is_below.true in
     let long : length S ≡ sh.checks = c.write_syndromes.auto.syndromes ∙ c.requires.syndromes in
     subst (Found f sh erased w true) (sym c.copy_from_slice.ensures.after)
     (clean f l sh erased w (omega (arith, turn, self.over.fits)) (subst (λ (q : ℕ). Word q sh.n w) (sym size) (record { long = self.long; symbols = self.symbols }))
@@ -70,8 +70,8 @@ returns-in_err-repair-clause-found g c =
     subst (λ done. Found f sh self.erased.now self.word.now done u) (sym failed)
     (untried f (g.met.F.Field.lawful field) sh self.erased.now self.word.now u (subst (λ done. Repaired f sh self.erased.now self.word.now done u) refused c.repair.ensures.repaired))
 
-pub returns-then-not-is_zero-clause-found : goal.returns-then-not-is_zero-clause-found
-returns-then-not-is_zero-clause-found g c =
+pub returns-then-not-is_below-clause-found : goal.returns-then-not-is_below-clause-found
+returns-then-not-is_below-clause-found g c =
     let self = c.args.self.now in
     let field = self.over.field.now in
     let f = g.F.Field.means field in
@@ -79,7 +79,7 @@ returns-then-not-is_zero-clause-found g c =
     let u = c.repair.new.out in
     let S = c.write_syndromes-2.new.syndromes in
     let accepted : is_ok c.repair.result ≡ true = search rules in
-    let other : all_below 1 S ≡ false = sym c.is_zero-2.ensures ∙ c.if-not-is_zero.true in
+    let other : all_below 1 S ≡ false = sym c.is_below-2.ensures ∙ c.if-not-is_below.true in
     failed f (g.met.F.Field.lawful field) sh self.erased.now self.word.now u (subst (λ done. Repaired f sh self.erased.now self.word.now done u) accepted c.repair.ensures.repaired)
     S (c.write_syndromes-2.auto.syndromes ∙ c.modify.auto.row ∙ c.write_syndromes.auto.syndromes ∙ c.requires.syndromes) c.write_syndromes-2.ensures other
 
@@ -92,6 +92,6 @@ returns-clause-found g c =
     let u = c.repair.new.out in
     let S = c.write_syndromes-2.new.syndromes in
     let accepted : is_ok c.repair.result ≡ true = search rules in
-    let zero : all_below 1 S ≡ true = sym c.is_zero-2.ensures ∙ c.if-not-is_zero.false in
+    let zero : all_below 1 S ≡ true = sym c.is_below-2.ensures ∙ c.if-not-is_below.false in
     tested f (g.met.F.Field.lawful field) sh self.erased.now self.word.now u (subst (λ done. Repaired f sh self.erased.now self.word.now done u) accepted c.repair.ensures.repaired)
     S (c.write_syndromes-2.auto.syndromes ∙ c.modify.auto.row ∙ c.write_syndromes.auto.syndromes ∙ c.requires.syndromes) c.write_syndromes-2.ensures zero
