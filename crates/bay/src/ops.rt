@@ -8,7 +8,7 @@ ghost use Rattle.bay.specs.Held.{held, Follows};
 
 use crate::Bay;
 use code::word::is_below;
-use code::{Code, Refusal};
+use code::{Code, FieldCode, Refusal};
 use corrector::correct;
 use encoder::encode;
 use field::Fixed;
@@ -43,12 +43,7 @@ impl<F: Fixed<Q, M>, const Q: u32, const M: u32> Bay<F, Q, M> {
         ensures { Follows self.old self.new (numbered result) (making (F.Field.means self.old.field) (held self.old) n r b) }
     {
         let code = Code::new(n, r, b)?;
-        if n > M {
-            return Err(Refusal::PastTurn);
-        }
-        if b >= M {
-            return Err(Refusal::FirstRoot);
-        }
+        FieldCode::new(&self.field, code)?;
         if self.code.is_some() {
             return Err(Refusal::HasCode);
         }
