@@ -1,6 +1,6 @@
 -- What the plain bay's correction means.
-use Rattle.std.proofs.Common.{◌≡◌, ℕ, ◌≤◌, Bool, true, false, ◌&&◌, List, replicate, Some, Ok, Err, Option, Result, sym, refl, ap, ◌∙◌, subst, ⊎_elim, arith}
-use Rattle.std.proofs.lemmas.Bool.{and_parts, and_from}
+use Rattle.std.proofs.Common.{◌≡◌, ℕ, ◌≤◌, Bool, true, false, ◌&&◌, List, replicate, Some, Ok, Err, Option, Result, sym, ap, ◌∙◌, subst, ⊎_elim, arith}
+use Rattle.std.proofs.lemmas.Bool.{and_parts, and_from, false_from_ne_true}
 use Rattle.field.specs.Meaning.{Meaning, Laws}
 use Rattle.code.specs.Shape.{Shape}
 use Rattle.code.specs.Words.{Word, codeword, in_reach, marked}
@@ -16,10 +16,6 @@ use Rattle.bay.specs.Means.{IsInReach, Refuses, Corrects}
 
 abbrev Out : Type 0
 Out = Result (Unit {0}) ℕ × Plain
-
-not_true : (b : Bool) → (b ≡ true → ⊥) → b ≡ false
-not_true true h = absurd (h refl)
-not_true false h = refl
 
 -- the same, of equal erasures and an equal word
 pub moved : (f : Meaning) (c : Shape) {x y : List Bool} {v w u : List ℕ} {a : Result (Unit {0}) ℕ} → x ≡ y → v ≡ w → Corrected f c x v a u → Corrected f c y w a u
@@ -93,7 +89,7 @@ module _ (f : Meaning) (p : Plain) where
 
     -- and where none is in reach, none is found
     pub finds_nothing : ((u : List ℕ) → IsInReach f c p u → ⊥) → correcting f p ≡ refused 12 p
-    finds_nothing none = under c e ∙ ap (then c) ((finds_none f.q c.n (near c)).1 (λ u w. not_true (near c u) (λ t. none u (is_near c u w t))))
+    finds_nothing none = under c e ∙ ap (then c) ((finds_none f.q c.n (near c)).1 (λ u w. false_from_ne_true (near c u) (λ t. none u (is_near c u w t))))
 
   module _ (c : Shape) (e : p.code ≡ Some c) (a : Result (Unit {0}) ℕ) (v : List ℕ) (r : Corrected f c p.marks p.word a v) where
     -- for the code: the codeword that was found is the one that is sought

@@ -22,7 +22,7 @@ pub fn request(heap: Global, sentence: Sentence) -> Result<Option<Call>, AllocEr
         ('N', [n, checks, first]) => Call::Make(*n, *checks, *first),
         // No position is marked.
         ('L', symbols) => {
-            let map = vec![in heap; 0u8; (symbols.len() + 7) / 8]?;
+            let map = vec![in heap; 0u8; symbols.len().div_ceil(8)]?;
             Call::Load(numbers, map)
         }
         ('P', [position, symbol]) => Call::Put(*position, *symbol),

@@ -9,7 +9,8 @@ use Rattle.std.proofs.lemmas.Int.Digits.{digits_value_push, digits_push}
 use Rattle.std.proofs.lemmas.List.{length_push}
 use Rattle.std.proofs.lemmas.Str.Parse.{IsNumeralModel, numerals_by_value, tells_all_ascii_digits, digit_from_value}
 use Rattle.std.proofs.lemmas.Str.{digit_value_digit}
-use Rattle.std.proofs.lemmas.Bool.{ltb-true, leb-true, eqb-true, eqb-false, ne_eqb, lt-ltb, le-leb, and_from, and_parts, cases_Bool, cond-true, cond-false}
+use Rattle.std.proofs.lemmas.Bool.{ltb-true, leb-true, eqb-true, eqb-false, ne_eqb, lt-ltb, le-leb, and_from, and_parts, cases_Bool, cond-true, cond-false, false_from_ne_true}
+use Rattle.std.proofs.lemmas.Option.{none-some}
 use Rattle.text.specs.Lines.{Numeral, Spells, SpellsNothing}
 
 -- the numbers ns, and then those that were found
@@ -58,14 +59,11 @@ pub reads_none : (v : ℕ) → reads v 0 [] ≡ None
 unfolding reads
 reads_none v = refl
 
-fails : (b : Bool) → (b ≡ true → ⊥) → b ≡ false
-fails b h = elim (cases_Bool b) [ inl t ↦ absurd (h t) | inr f ↦ f ]
-
 pub reads_stray : (v d c : ℕ) (cs : List ℕ) → (IsInRange 48 57 c → d < 5 → ⊥) → (c ≡ 32 → 0 < d → ⊥) → reads v d (c ∷ cs) ≡ None
 unfolding reads
 reads_stray v d c cs digit space =
-    let far : goes_on d c ≡ false = fails _ (λ e. let p = and_parts (is_ascii_digit c) (ltb d 5) e in digit (in_digit c p.0) (ltb-true d 5 p.1)) in
-    let same : ends d c ≡ false = fails _ (λ e. let p = and_parts (eqb c 32) (ltb 0 d) e in space (eqb-true c 32 p.0) (ltb-true 0 d p.1)) in
+    let far : goes_on d c ≡ false = false_from_ne_true _ (λ e. let p = and_parts (is_ascii_digit c) (ltb d 5) e in digit (in_digit c p.0) (ltb-true d 5 p.1)) in
+    let same : ends d c ≡ false = false_from_ne_true _ (λ e. let p = and_parts (eqb c 32) (ltb 0 d) e in space (eqb-true c 32 p.0) (ltb-true 0 d p.1)) in
     cond-false (goes_on d c) _ _ far ∙ cond-false (ends d c) _ _ same
 
 -- allDigits in the words of the library's lemmas
@@ -90,18 +88,15 @@ spells_more begun text rest ms ns n same s is = record {
 same_some : {X : Type 0} (x y : X) → Some x ≡ Some y → x ≡ y
 same_some x y e = cc
 
-none_some : {X : Type 0} (x : X) → None ≡ Some x → ⊥
-none_some x e = let z : ◌≡◌ {A = ℕ} 0 1 = cc in omega arith
-
 onto_some : (v : ℕ) (o : Option (List ℕ)) (ns : List ℕ) → onto (v ∷ []) o ≡ Some ns → (ms : List ℕ) × (o ≡ Some ms) × (ns ≡ v ∷ ms)
-onto_some v None ns e = absurd (none_some ns e)
+onto_some v None ns e = absurd (none-some ns e)
 onto_some v (Some ms) ns e = (ms, refl, sym (same_some (v ∷ ms) ns e))
 
 sound : (text : List ℕ) (v d : ℕ) (ns begun : List ℕ) → reads v d text ≡ Some ns → AllDigits 10 begun → length begun ≡ d → d ≤ 5 → digits_value 10 begun ≡ v → Spells (32 ∷ (begun ++ text)) ns
 unfolding reads
 sound [] v d ns begun e ds count few is =
     elim (cases_Bool (eqb d 0)) [
-      | inl t ↦ absurd (none_some ns (sym (cond-true (eqb d 0) None (Some (v ∷ [])) t) ∙ e))
+      | inl t ↦ absurd (none-some ns (sym (cond-true (eqb d 0) None (Some (v ∷ [])) t) ∙ e))
       | inr f ↦
           let one : v ∷ [] ≡ ns = same_some _ _ (sym (cond-false (eqb d 0) None (Some (v ∷ [])) f) ∙ e) in
           let some : 0 < length begun = omega (arith, eqb-false d 0 f) in
@@ -124,7 +119,7 @@ sound (c ∷ cs) v d ns begun e ds count few is =
                 let after = sound cs 0 0 k.0 [] k.1 tt refl (omega arith) refl in
                 let numeral = one_numeral begun ds (omega (arith, ltb-true 0 d p.1)) (omega arith) in
                 spells_more begun (32 ∷ cs) (c ∷ cs) k.0 ns numeral (ap (λ (n : ℕ). n ∷ cs) (eqb-true c 32 p.0)) after (k.2 ∙ ap (λ (n : ℕ). n ∷ k.0) (sym is))
-            | inr g ↦ absurd (none_some ns (sym (cond-false (ends d c) _ _ g) ∙ rest))
+            | inr g ↦ absurd (none-some ns (sym (cond-false (ends d c) _ _ g) ∙ rest))
           ]
     ]
 
@@ -162,12 +157,12 @@ spells_read rest ns e = sound rest 0 0 ns [] e tt refl (omega arith) refl
 
 pub nothing_read : (rest : List ℕ) → reads 0 0 rest ≡ None → SpellsNothing (32 ∷ rest)
 unfolding found
-nothing_read rest e ns s = none_some ns (sym e ∙ found_complete (32 ∷ rest) ns s)
+nothing_read rest e ns s = none-some ns (sym e ∙ found_complete (32 ∷ rest) ns s)
 
 -- a text that does not begin with a space
 pub nothing_stray : (c : ℕ) (cs : List ℕ) → (c ≡ 32 → ⊥) → SpellsNothing (c ∷ cs)
 unfolding found
-nothing_stray c cs other ns s = none_some ns (sym (cond-false (eqb c 32) (reads 0 0 cs) None (ne_eqb c 32 other)) ∙ found_complete (c ∷ cs) ns s)
+nothing_stray c cs other ns s = none-some ns (sym (cond-false (eqb c 32) (reads 0 0 cs) None (ne_eqb c 32 other)) ∙ found_complete (c ∷ cs) ns s)
 
 -- a text spells one list of numbers
 pub spells_one : (text ms ns : List ℕ) → Spells text ms → Spells text ns → ms ≡ ns
