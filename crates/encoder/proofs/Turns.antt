@@ -32,14 +32,15 @@ module _ (f : Meaning) (l : Laws f) (c : ℕ) (c_in : c < f.q) (from old : List 
   beneath_in zero = omega (arith, l.q_low)
   beneath_in (suc i) = old-in i
 
-  pub turning_more : (now : List ℕ) (i below y p s : ℕ) → i < length now → Turning f c i below from old now → y ≡ get_or from i 0
-      → (c < f.q → y < f.q → p ≡ f.prod c y) → (below < f.q → p < f.q → s ≡ f.sum below p) → Turning f c (i + 1) (get_or now i 0) from old (set now i s)
-  turning_more now i below y p s h t ey ep es =
-      let p_is : p ≡ f.prod c (get_or from i 0) = ep c_in (rw ey (from-in i)) ∙ ap (f.prod c) ey in
+  pub turning_more : (now : List ℕ) (i below y s : ℕ) → i < length now → Turning f c i below from old now → y ≡ get_or from i 0
+      → (c < f.q → y < f.q → below < f.q → s ≡ f.sum (f.prod c y) below) → Turning f c (i + 1) (get_or now i 0) from old (set now i s)
+  turning_more now i below y s h t ey es =
+      let y_in : y < f.q = rw ey (from-in i) in
       let b_in : below < f.q = rw t.0 (beneath_in i) in
-      let p_in : p < f.q = rw p_is (l.prod_in _ _ c_in (from-in i)) in (
+      let s_is : s ≡ f.sum (beneath old i) (f.prod c (get_or from i 0)) =
+      es c_in y_in b_in ∙ ap₂ (λ (a b : ℕ). f.sum (f.prod c a) b) ey t.0 ∙ l.sum_comm _ _ (l.prod_in _ _ c_in (from-in i)) (beneath_in i) in (
         t.1.rest i (le_refl i) ∙ ap (beneath old) (sym (add-one i)),
-        written_more (Turns f c from old) i old now s h t.1 (es b_in p_in ∙ ap₂ f.sum t.0 p_is),
+        written_more (Turns f c from old) i old now s h t.1 s_is,
       )
 
   pub turned_all : (now : List ℕ) (i below : ℕ) → i ≡ length old → 0 < length old → Turning f c i below from old now → Turned f c (length old - 1) from old now

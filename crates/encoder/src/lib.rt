@@ -41,7 +41,7 @@ fn turn<F: Field>(field: &F, c: u32, from: &[u32], to: &mut [u32])
     // Not by `zip`, after which a proof knows nothing of what was written.
     for (i, x) in to.iter_mut().enumerate() {
         let here = *x;
-        *x = field.sum(below, field.product(c, from[i]));
+        *x = field.multiply_add(c, from[i], below);
         below = here;
     }
 }
@@ -58,7 +58,7 @@ fn multiply<F: Field>(field: &F, c: u32, g: &mut [u32])
     let mut below = 0;
     for x in g.iter_mut() {
         let here = *x;
-        *x = field.sum(below, field.product(c, here));
+        *x = field.multiply_add(c, here, below);
         below = here;
     }
 }
