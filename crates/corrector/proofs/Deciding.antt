@@ -1,5 +1,5 @@
 -- The decision, from what the parts promise.
-use Rattle.std.proofs.Common.{◌≡◌, ℕ, zero, suc, ◌+◌, ◌-◌, ◌*◌, ◌<◌, ◌≤◌, Bool, true, false, cond, not, ◌&&◌, eqb, List, length, get_or, take, ℤ, pos, negsuc, ◌+ℤ◌, ◌≤ℤ◌, Some, None, Option, sym, refl, ap, ◌∙◌, subst, ap₂, inl, inr, arith, length-take, get_or-take}
+use Rattle.std.proofs.Common.{◌≡◌, ℕ, zero, suc, ◌+◌, ◌-◌, ◌*◌, ◌<◌, ◌≤◌, Bool, true, false, cond, not, ◌&&◌, eqb, List, length, get_or, take, ℤ, pos, negsuc, ◌+ℤ◌, ◌≤ℤ◌, Some, None, Ok, Err, Option, Result, is_ok, sym, refl, ap, ◌∙◌, subst, ap₂, inl, inr, arith, length-take, get_or-take}
 use native.Mathlib.Decide.{dec_lt, dec_le}
 use Rattle.std.proofs.lemmas.List.{get_or_past}
 use Rattle.std.proofs.lemmas.Bool.{cases_lt, eq-eqb}
@@ -11,7 +11,9 @@ use Rattle.code.specs.Shape.{Shape}
 use Rattle.code.specs.Words.{Word, Codeword, Near, count, marked, check_sum}
 use Rattle.code.proofs.Distance.{one_in_reach}
 use Rattle.solver.specs.Pairs.{Least}
-use Rattle.solver.specs.Answer.{Counts, Solved, refusal_of}
+use Rattle.solver.specs.Answer.{Answered, Counts, Solved, refusal_of}
+use Rattle.code.specs.Refusals.{number}
+use Rattle.code.specs.declared.Refusal.{Refusal}
 use Rattle.solver.specs.declared.Side.{Side}
 use Rattle.solver.proofs.Refusing.{accepts}
 use Rattle.solver.proofs.Ending.{within}
@@ -44,6 +46,15 @@ module _ (f : Meaning) (c : Shape) (erased : List Bool) (A B w ps : List ℕ) (e
         few = λ _. let e = placed.number in omega arith;
         none = λ z v j. let k = m'.stuck z in j.divides k.0 k.1 k.2 k.3;
       }
+
+-- what solve answers where nothing refuses it
+module _ (f : Meaning) (g : List ℕ) (n : ℕ) (r : ℤ) (xs ys xs' ys' : List ℕ) where
+  pub answered_ok : (a : Result (ℕ × ℕ × Side) Refusal) → Answered f g n r xs ys xs' ys' a → ((k : ℕ) → refusal_of f.q g n r (length xs) (length ys) ≡ Some k → ⊥) → is_ok a ≡ true
+  answered_ok (Ok found) h never = refl
+  answered_ok (Err e) h never = absurd (never (number e) h.0)
+
+  pub answered_solved : (a : Result (ℕ × ℕ × Side) Refusal) (found : ℕ × ℕ × Side) → Answered f g n r xs ys xs' ys' a → a ≡ Ok found → Solved f g n r xs ys xs' ys' found
+  answered_solved a found h e = (subst (λ a. Answered f g n r xs ys xs' ys' a) e h).1
 
 -- a count is at most the length
 counts_most : (p : List ℕ) (n : ℕ) → Counts p n → n ≤ length p

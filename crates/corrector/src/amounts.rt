@@ -1,14 +1,13 @@
 // The amounts at the located positions, and the word that they mend.
-ghost use Rattle.std.specs.Prelude.{◌≡◌, ◌<◌, ◌≤◌, length, is_ok, IfErr, MatchOption};
+ghost use Rattle.std.specs.Prelude.{◌≡◌, ◌<◌, ◌≤◌, length, is_ok, MatchOption};
 ghost use Rattle.field.specs.Symbols.{Within};
 ghost use Rattle.code.specs.Shape.{shape};
-ghost use Rattle.code.specs.Refusals.{number};
 ghost use Rattle.errata.specs.Pieces.{spread, divisor, mended};
 ghost use Rattle.corrector.specs.MendSteps.{Mended};
 
 use crate::pair::Pair;
+use crate::reach::OutOfReach;
 use crate::received::Received;
-use code::Refusal;
 use evaluation::value;
 use field::Fixed;
 
@@ -52,15 +51,14 @@ impl<'a, F: Fixed<Q, M>, const Q: u32, const M: u32> Received<'a, F, Q, M> {
         pair: &Pair<Q>,
         places: &[u32],
         out: &mut [u32],
-    ) -> Result<(), Refusal>
+    ) -> Result<(), OutOfReach>
         requires room { length out.old ≡ (shape self.now.over.code).n }
         requires inside { Within (shape self.now.over.code).n places.now }
-        ensures mended { Mended (F.Field.means self.now.over.field.now) (shape self.now.over.code) pair.now.evaluator.now pair.now.locator.now places.now self.now.word.now (is_ok result) out.new }
-        ensures row { IfErr result (λ e. number e ≡ 12) }
+        ensures { Mended (F.Field.means self.now.over.field.now) (shape self.now.over.code) pair.now.evaluator.now pair.now.locator.now places.now self.now.word.now (is_ok result) out.new }
     {
         out.copy_from_slice(self.word);
         for k in places {
-            out[*k as usize] = self.mended_at(pair, places, *k).ok_or(Refusal::OutOfReach)?;
+            out[*k as usize] = self.mended_at(pair, places, *k).ok_or(OutOfReach {})?;
         }
         Ok(())
     }

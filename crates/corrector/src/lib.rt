@@ -14,6 +14,7 @@ use received::Received;
 mod amounts;
 mod locate;
 mod pair;
+mod reach;
 mod received;
 mod search;
 mod syndromes;

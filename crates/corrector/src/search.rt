@@ -1,15 +1,15 @@
 // The search for the codeword in reach.
-ghost use Rattle.std.specs.Prelude.{◌≡◌, ◌≤◌, length, is_ok, IfErr};
+ghost use Rattle.std.specs.Prelude.{◌≡◌, ◌≤◌, length, is_ok};
 ghost use Rattle.code.specs.Shape.{shape};
-ghost use Rattle.code.specs.Refusals.{number};
 ghost use Rattle.code.specs.Words.{marked};
 ghost use Rattle.corrector.specs.SearchSteps.{Modifies, Attempted, Repaired, Found};
 
 use crate::pair::Pair;
+use crate::reach::OutOfReach;
 use crate::received::Received;
 use crate::syndromes::{modify, write_syndromes};
+use code::Code;
 use code::word::is_below;
-use code::{Code, Refusal};
 use field::Fixed;
 use solver::solve;
 
@@ -20,28 +20,26 @@ const COEFFICIENTS: usize = SYNDROMES + 1;
 
 impl<'a, F: Fixed<Q, M>, const Q: u32, const M: u32> Received<'a, F, Q, M> {
     // Locates and mends by an evaluator and a locator, where s positions are erased. A refusal says that these show no codeword in reach.
-    fn attempt(&self, s: u32, pair: &Pair<Q>, out: &mut [u32]) -> Result<(), Refusal>
+    fn attempt(&self, s: u32, pair: &Pair<Q>, out: &mut [u32]) -> Result<(), OutOfReach>
         requires number { s ≡ marked (shape self.now.over.code) self.now.erased.now }
         requires few { s ≤ 512 }
         requires room { length out.old ≡ (shape self.now.over.code).n }
-        ensures attempted { Attempted (F.Field.means self.now.over.field.now) (shape self.now.over.code) self.now.erased.now pair.now.evaluator.now pair.now.locator.now self.now.word.now (is_ok result) out.new }
-        ensures row { IfErr result (λ e. number e ≡ 12) }
+        ensures { Attempted (F.Field.means self.now.over.field.now) (shape self.now.over.code) self.now.erased.now pair.now.evaluator.now pair.now.locator.now self.now.word.now (is_ok result) out.new }
     {
         let located = self.locate(pair);
         if 2 * located.errors + s > self.over.code.checks() {
-            return Err(Refusal::OutOfReach);
+            return Err(OutOfReach {});
         }
         self.mend(pair, located.places.as_slice(), out)
     }
 
     // Tries what the least pair of the modified syndromes shows, where s positions are erased.
-    fn repair(&self, s: u32, modified: &[u32], out: &mut [u32]) -> Result<(), Refusal>
+    fn repair(&self, s: u32, modified: &[u32], out: &mut [u32]) -> Result<(), OutOfReach>
         requires number { s ≡ marked (shape self.now.over.code) self.now.erased.now }
         requires few { s ≤ 512 }
         requires row { Modifies (F.Field.means self.now.over.field.now) (shape self.now.over.code) self.now.erased.now self.now.word.now modified.now }
         requires room { length out.old ≡ (shape self.now.over.code).n }
-        ensures repaired { Repaired (F.Field.means self.now.over.field.now) (shape self.now.over.code) self.now.erased.now self.now.word.now (is_ok result) out.new }
-        ensures row { IfErr result (λ e. number e ≡ 12) }
+        ensures { Repaired (F.Field.means self.now.over.field.now) (shape self.now.over.code) self.now.erased.now self.now.word.now (is_ok result) out.new }
     {
         let mut left = [0; COEFFICIENTS];
         let mut right = [0; COEFFICIENTS];
@@ -54,7 +52,8 @@ impl<'a, F: Fixed<Q, M>, const Q: u32, const M: u32> Received<'a, F, Q, M> {
             order,
             &mut left,
             &mut right,
-        )?;
+        )
+        .unwrap();
         let pair = Pair {
             evaluator: &left[..a],
             locator: &right[..b],
@@ -63,15 +62,14 @@ impl<'a, F: Fixed<Q, M>, const Q: u32, const M: u32> Received<'a, F, Q, M> {
     }
 
     // Seeks with room for the syndromes of the code, one place for each.
-    fn find_with(&self, row: &mut [u32], out: &mut [u32]) -> Result<(), Refusal>
+    fn find_with(&self, row: &mut [u32], out: &mut [u32]) -> Result<(), OutOfReach>
         requires syndromes { length row.old ≡ (shape self.now.over.code).checks }
         requires room { length out.old ≡ (shape self.now.over.code).n }
-        ensures found { Found (F.Field.means self.now.over.field.now) (shape self.now.over.code) self.now.erased.now self.now.word.now (is_ok result) out.new }
-        ensures row { IfErr result (λ e. number e ≡ 12) }
+        ensures { Found (F.Field.means self.now.over.field.now) (shape self.now.over.code) self.now.erased.now self.now.word.now (is_ok result) out.new }
     {
         let s = self.erasures();
         if s > self.over.code.checks() {
-            return Err(Refusal::OutOfReach);
+            return Err(OutOfReach {});
         }
         write_syndromes(&self.over, self.word, row);
         // 0 is the only number below 1.
@@ -83,16 +81,15 @@ impl<'a, F: Fixed<Q, M>, const Q: u32, const M: u32> Received<'a, F, Q, M> {
         self.repair(s, row, out)?;
         write_syndromes(&self.over, out, row);
         if !is_below(row, 1) {
-            return Err(Refusal::OutOfReach);
+            return Err(OutOfReach {});
         }
         Ok(())
     }
 
     // Writes the codeword in reach, where there is one.
-    pub(crate) fn find(&self, out: &mut [u32]) -> Result<(), Refusal>
+    pub(crate) fn find(&self, out: &mut [u32]) -> Result<(), OutOfReach>
         requires room { length out.old ≡ (shape self.now.over.code).n }
-        ensures found { Found (F.Field.means self.now.over.field.now) (shape self.now.over.code) self.now.erased.now self.now.word.now (is_ok result) out.new }
-        ensures row { IfErr result (λ e. number e ≡ 12) }
+        ensures { Found (F.Field.means self.now.over.field.now) (shape self.now.over.code) self.now.erased.now self.now.word.now (is_ok result) out.new }
     {
         let mut row = [0; SYNDROMES];
         let checks = self.over.code.checks() as usize;

@@ -16,15 +16,15 @@ mend-requires g c =
     let inside : Within sh.n ps = subst (Within sh.n) (sym c.locate-located.ensures.is) (passing_in sh.n p sh.n (omega arith) (omega (arith, self.over.code.least))) in
     (omega arith, (omega arith, (c.requires.room, subst (Within sh.n) (sym c.as_slice.ensures.value) inside)))
 
-pub returns-then-located-s-clause-attempted : goal.returns-then-located-s-clause-attempted
-returns-then-located-s-clause-attempted g c =
+pub returns-then-located-s : goal.returns-then-located-s
+returns-then-located-s g c =
     let self = c.args.self.now in
     many (g.F.Field.means self.over.field.now) (shape self.over.code) self.erased.now c.args.pair.now.evaluator.now c.args.pair.now.locator.now self.word.now
     c.locate-located.result.places.items c.locate-located.result.errors c.args.s c.requires.number c.locate-located.ensures
     c.args.out.now (omega (arith, c.checks.ensures, c.if-located-s.true))
 
-pub returns-clause-attempted : goal.returns-clause-attempted
-returns-clause-attempted g c =
+pub returns : goal.returns
+returns g c =
     let self = c.args.self.now in
     let f = g.F.Field.means self.over.field.now in
     let sh = shape self.over.code in
@@ -33,4 +33,4 @@ returns-clause-attempted g c =
     mended_by f sh self.erased.now a b self.word.now
     c.locate-located.result.places.items c.locate-located.result.errors c.args.s c.requires.number c.locate-located.ensures
     c.mend.new.out (is_ok c.mend.result) (omega (arith, c.checks.ensures, c.if-located-s.false))
-    (subst (λ ps. Mended f sh a b ps self.word.now (is_ok c.mend.result) c.mend.new.out) c.as_slice.ensures.value c.mend.ensures.mended)
+    (subst (λ ps. Mended f sh a b ps self.word.now (is_ok c.mend.result) c.mend.new.out) c.as_slice.ensures.value c.mend.ensures)

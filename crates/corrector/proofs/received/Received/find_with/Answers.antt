@@ -15,8 +15,8 @@ write_syndromes-requires g c =
     let inside : Within g.row.Q self.word.now = within_from g.row.Q self.word.now (omega (arith, size, (g.met.F.Field.lawful field).q_low)) self.symbols in
     (omega arith, (c.requires.syndromes, inside))
 
-pub returns-then-is_below-clause-found : goal.returns-then-is_below-clause-found
-returns-then-is_below-clause-found g c =
+pub returns-then-is_below : goal.returns-then-is_below
+returns-then-is_below g c =
     let self = c.args.self.now in
     let field = self.over.field.now in
     let f = g.F.Field.means field in
@@ -58,8 +58,8 @@ repair-requires g c =
     let row = modifies f l (shape code) self.erased.now w c.write_syndromes.new.syndromes c.modify.new.row w_in (c.write_syndromes.auto.syndromes ∙ c.requires.syndromes) self.wide c.write_syndromes.ensures c.modify.ensures in
     (omega arith, (c.erasures-s.ensures, (omega (arith, c.checks.ensures, c.if-s-checks.false, code.few), (row, c.requires.room))))
 
-pub returns-in_err-repair-clause-found : goal.returns-in_err-repair-clause-found
-returns-in_err-repair-clause-found g c =
+pub returns-in_err-repair : goal.returns-in_err-repair
+returns-in_err-repair g c =
     let self = c.args.self.now in
     let field = self.over.field.now in
     let f = g.F.Field.means field in
@@ -68,10 +68,10 @@ returns-in_err-repair-clause-found g c =
     let refused : is_ok c.repair.result ≡ false = search rules in
     let failed : is_ok c.from_residual.result ≡ false = search rules in
     subst (λ done. Found f sh self.erased.now self.word.now done u) (sym failed)
-    (untried f (g.met.F.Field.lawful field) sh self.erased.now self.word.now u (subst (λ done. Repaired f sh self.erased.now self.word.now done u) refused c.repair.ensures.repaired))
+    (untried f (g.met.F.Field.lawful field) sh self.erased.now self.word.now u (subst (λ done. Repaired f sh self.erased.now self.word.now done u) refused c.repair.ensures))
 
-pub returns-then-not-is_below-clause-found : goal.returns-then-not-is_below-clause-found
-returns-then-not-is_below-clause-found g c =
+pub returns-then-not-is_below : goal.returns-then-not-is_below
+returns-then-not-is_below g c =
     let self = c.args.self.now in
     let field = self.over.field.now in
     let f = g.F.Field.means field in
@@ -80,11 +80,11 @@ returns-then-not-is_below-clause-found g c =
     let S = c.write_syndromes-2.new.syndromes in
     let accepted : is_ok c.repair.result ≡ true = search rules in
     let other : all_below 1 S ≡ false = sym c.is_below-2.ensures ∙ c.if-not-is_below.true in
-    failed f (g.met.F.Field.lawful field) sh self.erased.now self.word.now u (subst (λ done. Repaired f sh self.erased.now self.word.now done u) accepted c.repair.ensures.repaired)
+    failed f (g.met.F.Field.lawful field) sh self.erased.now self.word.now u (subst (λ done. Repaired f sh self.erased.now self.word.now done u) accepted c.repair.ensures)
     S (c.write_syndromes-2.auto.syndromes ∙ c.modify.auto.row ∙ c.write_syndromes.auto.syndromes ∙ c.requires.syndromes) c.write_syndromes-2.ensures other
 
-pub returns-clause-found : goal.returns-clause-found
-returns-clause-found g c =
+pub returns : goal.returns
+returns g c =
     let self = c.args.self.now in
     let field = self.over.field.now in
     let f = g.F.Field.means field in
@@ -93,5 +93,5 @@ returns-clause-found g c =
     let S = c.write_syndromes-2.new.syndromes in
     let accepted : is_ok c.repair.result ≡ true = search rules in
     let zero : all_below 1 S ≡ true = sym c.is_below-2.ensures ∙ c.if-not-is_below.false in
-    tested f (g.met.F.Field.lawful field) sh self.erased.now self.word.now u (subst (λ done. Repaired f sh self.erased.now self.word.now done u) accepted c.repair.ensures.repaired)
+    tested f (g.met.F.Field.lawful field) sh self.erased.now self.word.now u (subst (λ done. Repaired f sh self.erased.now self.word.now done u) accepted c.repair.ensures)
     S (c.write_syndromes-2.auto.syndromes ∙ c.modify.auto.row ∙ c.write_syndromes.auto.syndromes ∙ c.requires.syndromes) c.write_syndromes-2.ensures zero

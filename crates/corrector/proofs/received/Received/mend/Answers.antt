@@ -16,8 +16,8 @@ loop-k-init g c =
     subst (Mending f (shape c.args.self.now.over.code) c.args.pair.now.evaluator.now c.args.pair.now.locator.now c.args.places.now w 0) (sym c.copy_from_slice.ensures.after)
     (mending_none f (shape c.args.self.now.over.code) c.args.pair.now.evaluator.now c.args.pair.now.locator.now c.args.places.now w c.args.self.now.long (within_from f.q w (omega (arith, (g.met.F.Field.lawful field).q_low)) (subst (λ (q : ℕ). all_below q w ≡ true) (sym size) c.args.self.now.symbols)))
 
-pub returns-in_err-out-clause-mended : goal.returns-in_err-out-clause-mended
-returns-in_err-out-clause-mended g c =
+pub returns-in_err-out : goal.returns-in_err-out
+returns-in_err-out g c =
     let f = g.F.Field.means c.args.self.now.over.field.now in
     let sh = shape c.args.self.now.over.code in
     let w = c.args.self.now.word.now in
@@ -29,7 +29,7 @@ returns-in_err-out-clause-mended g c =
     subst (λ done. Mended f sh a b ps w done c.loop-k.out) (sym failed)
     (mending_stuck f sh a b ps w c.loop-k.out c.loop-k.k-index c.loop-k-test.true (c.requires.inside c.loop-k.k-index) zero)
 
-pub returns-clause-mended : goal.returns-clause-mended
-returns-clause-mended g c =
+pub returns : goal.returns
+returns g c =
     let self = c.args.self.now in
     mending_all (g.F.Field.means self.over.field.now) (shape self.over.code) c.args.pair.now.evaluator.now c.args.pair.now.locator.now c.args.places.now self.word.now c.loop-k.k-index c.loop-k.out c.loop-k.invariant c.loop-k-test.false
