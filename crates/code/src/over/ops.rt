@@ -77,10 +77,16 @@ impl<'a, F: Fixed<Q, M>, const Q: u32, const M: u32> FieldCode<'a, F, Q, M> {
         requires symbols { all_below Q word.now ≡ true }
         ensures { result ≡ failing_root (F.Field.means self.now.field.now) (shape self.now.code) word.now }
     {
+        let field = self.field;
         'roots: {
-            for j in 0..self.code.checks() {
-                let t = self.code.first_root() as u64 + j as u64;
-                if self.weighed_sum(word, t) != 0 {
+            for j in 0..self.code.checks {
+                let t = self.code.first + j;
+                let mut total = 0;
+                for (i, w) in word.iter().enumerate() {
+                    let e = i as u32 * t % M;
+                    total = field.sum(total, field.product(*w, field.power(e as u16)));
+                }
+                if total != 0 {
                     break 'roots Some(j);
                 }
             }
