@@ -12,6 +12,11 @@ pub mod word;
 
 pub use over::FieldCode;
 
+// The most positions, and the most checks, that a code may have, as lengths of rows.
+pub const POSITIONS: usize = Code::MOST_POSITIONS as usize;
+
+pub const CHECKS: usize = Code::MOST_CHECKS as usize;
+
 // Why a call was turned down, in the order of the rows: of several that hold, the topmost is given.
 #[derive(Clone, Copy, Debug, PartialEq, Eq)]
 pub enum Refusal {

@@ -1,4 +1,5 @@
 // Words on slices, apart from any bay: whether a word fits a code over a field, and its check sums.
+// Field and code come apart, since a code that the field has no room for is answered too.
 ghost use Rattle.std.specs.Prelude.{◌≡◌};
 ghost use Rattle.field.specs.Symbols.{all_below};
 ghost use Rattle.code.specs.Shape.{shape};

@@ -4,8 +4,7 @@
 // And syndromes, the check sums of a word all at once, from what a division by the generator polynomial leaves.
 #![tactic(auto)]
 
-ghost use Rattle.std.specs.Prelude.{◌≡◌, ◌-◌, ◌<◌, ◌≤◌, length, None, Ok, MatchResult, OnErr, nat_eq};
-ghost use Rattle.std.specs.List.{list_all};
+ghost use Rattle.std.specs.Prelude.{◌≡◌, ◌-◌, ◌<◌, ◌≤◌, length, None, Ok, MatchResult, OnErr};
 ghost use Rattle.field.specs.Symbols.{Within};
 ghost use Rattle.code.specs.Shape.{shape};
 ghost use Rattle.code.specs.Refusals.{numbered};
@@ -15,20 +14,16 @@ ghost use Rattle.encoder.specs.Encodes.{Encodes};
 ghost use Rattle.encoder.specs.Syndromes.{Summed, summing};
 ghost use Rattle.encoder.specs.Register.{Turned, Generates, Divided, Evaluated};
 
-use code::{Code, FieldCode, Refusal};
+use code::word::is_below;
+use code::{CHECKS, Code, FieldCode, POSITIONS, Refusal};
 use evaluation::{powers, values};
 use field::{Field, Fixed};
 
-// Room for a symbol for each check of the largest code.
-const CHECKS: usize = Code::MOST_CHECKS as usize;
-
-// A generator has one coefficient more than a code has checks.
+// A generator has one coefficient more than a code has checks. Rows of fixed length, since no call here takes memory.
 const ROOM: usize = CHECKS + 1;
 
-// Room for the largest word.
-const POSITIONS: usize = Code::MOST_POSITIONS as usize;
-
 // to := x · to + c · from, as far as `to` goes; what stood at its top is lost.
+// That rows and factors are symbols is a clause of each step: a slice that is written has no type that says so without a copy.
 fn turn<F: Field>(field: &F, c: u32, from: &[u32], to: &mut [u32])
     requires some { 0 < length to.old }
     requires read { length to.old ≤ length from.now }
@@ -72,6 +67,7 @@ fn generator<F: Fixed<Q, M>, const Q: u32, const M: u32>(over: &FieldCode<F, Q, 
     g[0] = 1;
     let a = field.power(1);
     let mut root = field.power(over.code.first_root() as u16);
+    // By count: the part that a step writes grows by a place, and no iterator lends parts that overlap.
     for j in 0..over.code.checks() as usize {
         multiply(field, field.opposite(root), &mut g[0..j + 2]);
         root = field.product(a, root);
@@ -137,13 +133,6 @@ pub fn encode<F: Fixed<Q, M>, const Q: u32, const M: u32>(
     Ok(())
 }
 
-// Whether all numbers are 0.
-fn is_zero(row: &[u32]) -> bool
-    ensures { result ≡ list_all (λ x. nat_eq x 0) row.now }
-{
-    row.iter().all(|x| *x == 0)
-}
-
 // Writes the values of a remainder at the roots of the code.
 fn evaluate<F: Fixed<Q, M>, const Q: u32, const M: u32>(
     over: &FieldCode<F, Q, M>,
@@ -160,7 +149,7 @@ fn evaluate<F: Fixed<Q, M>, const Q: u32, const M: u32>(
     values(over.field, remainder, points, out);
 }
 
-// Writes the check sums of a word that fits; whether all are 0.
+// Writes the check sums of a word that fits; whether all are 0. A Boolean, since it answers a question and refuses nothing.
 fn write_syndromes<F: Fixed<Q, M>, const Q: u32, const M: u32>(
     over: &FieldCode<F, Q, M>,
     word: &[u32],
@@ -176,16 +165,17 @@ fn write_syndromes<F: Fixed<Q, M>, const Q: u32, const M: u32>(
     row.copy_from_slice(word);
     divide(over, &generator(over), row);
     let remainder = &row[0..out.len()];
-    if is_zero(remainder) {
+    // 0 is the only number below 1.
+    if is_below(remainder, 1) {
         out.fill(0);
         return true;
     }
     evaluate(over, remainder, out);
-    is_zero(out)
+    is_below(out, 1)
 }
 
-// Writes the check sums of a word into the first places of a buffer, one for each check, and tells whether all are 0.
-// Where the code is not one of the field, the word not one of the code or the buffer too short, says which, and the buffer stays as it was.
+// Writes the check sums of a word into the first places of a buffer, one for each check, and tells whether all are 0:
+// a Boolean, since both answers are accepted. Where the code is not one of the field, the word not one of the code or the buffer too short, says which, and the buffer stays as it was.
 pub fn syndromes<F: Fixed<Q, M>, const Q: u32, const M: u32>(
     field: &F,
     code: &Code,

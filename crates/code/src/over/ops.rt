@@ -54,7 +54,8 @@ impl<'a, F: Fixed<Q, M>, const Q: u32, const M: u32> FieldCode<'a, F, Q, M> {
         Ok(self.failing(word))
     }
 
-    // The sum of each symbol times a to the t at its place.
+    // The sum of each symbol times a to the t at its place: a loop with its index, as docs/DECISIONS.md fixes for this place;
+    // evaluation::value goes round with an exponent instead. By `as`: `u64::from` adds an equation at each use, and the proof is longer.
     fn weighed_sum(&self, word: &[u32], t: u64) -> u32
         requires low { t < 2 ^ 40 }
         requires short { length word.now ≤ 928 }
@@ -71,7 +72,7 @@ impl<'a, F: Fixed<Q, M>, const Q: u32, const M: u32> FieldCode<'a, F, Q, M> {
         total
     }
 
-    // The lowest root that fails: roots outside, positions inside.
+    // The lowest root that fails: roots outside, positions inside, in a labelled block and not by `find`, as docs/DECISIONS.md fixes for this place.
     fn failing(&self, word: &[u32]) -> Option<u32>
         requires short { length word.now ≤ 928 }
         requires symbols { all_below Q word.now ≡ true }

@@ -14,8 +14,8 @@ divide-requires g c =
     let w_in : Within f.q w = word_in f l _ _ w (g.met.F.Fixed.size c.args.over.now.field.now) c.requires.word in
     (omega arith, (c.generator.ensures, (omega arith, rw c.copy_from_slice.ensures.after w_in)))
 
-pub returns-then-is_zero : goal.returns-then-is_zero
-returns-then-is_zero g c =
+pub returns-then-is_below : goal.returns-then-is_below
+returns-then-is_below g c =
     let f = g.F.Field.means c.args.over.now.field.now in
     let l = g.met.F.Field.lawful c.args.over.now.field.now in
     let sh = shape c.args.over.now.code in
@@ -27,7 +27,7 @@ returns-then-is_zero g c =
     let d : Divided f sh.first sh.checks w row = subst (λ v. Divided f sh.first sh.checks v row) c.copy_from_slice.ensures.after c.divide.ensures in
     let is : new ≡ replicate (length old) 0 = search rules in
     let zeros : (i : ℕ) → get_or new i 0 ≡ 0 = λ i. ap (λ xs. get_or xs i 0) is ∙ zeros_at _ i in
-    let vs = zero_values f l sh.first (take k row) new (sym c.is_zero.ensures ∙ c.if-is_zero.true) zeros in
+    let vs = zero_values f l sh.first (take k row) new (sym c.is_below.ensures ∙ c.if-is_below.true) zeros in
     record {
       all = zeros_pass f l sh w row k d (omega arith) (omega arith) old new (omega arith) (omega arith) vs zeros;
       each = values_sums f l sh w row k d (omega arith) (omega arith) old new (omega arith) (omega arith) vs;
@@ -50,6 +50,6 @@ returns g c =
     let k = length old - 0 in
     let d : Divided f sh.first sh.checks w row = subst (λ v. Divided f sh.first sh.checks v row) c.copy_from_slice.ensures.after c.divide.ensures in
     record {
-      all = c.is_zero-2.ensures ∙ values_pass f l sh w row k d (omega arith) (omega arith) old new (omega arith) (omega arith) c.evaluate.ensures;
+      all = c.is_below-2.ensures ∙ values_pass f l sh w row k d (omega arith) (omega arith) old new (omega arith) (omega arith) c.evaluate.ensures;
       each = values_sums f l sh w row k d (omega arith) (omega arith) old new (omega arith) (omega arith) c.evaluate.ensures;
     }
