@@ -8,16 +8,13 @@ ghost use Rattle.bay.specs.Held.{held, Follows};
 
 use crate::Bay;
 use code::word::is_below;
-use code::{Code, FieldCode, Refusal};
+use code::{Code, FieldCode, POSITIONS, Refusal};
 use corrector::correct;
 use encoder::encode;
 use field::Fixed;
 use marks::LostMap;
 use report::Report;
 use std::alloc::{AllocError, Global};
-
-// Room for the largest word.
-const POSITIONS: usize = Code::MOST_POSITIONS as usize;
 
 impl<F: Fixed<Q, M>, const Q: u32, const M: u32> Bay<F, Q, M> {
     // A bay with no code, and room for the largest word, map and report.
@@ -26,7 +23,7 @@ impl<F: Fixed<Q, M>, const Q: u32, const M: u32> Bay<F, Q, M> {
         F: Drop,
         ensures { IfOk result (λ b. (held b ≡ empty) × (b.field ≡ field)) }
     {
-        let word = Vec::with_capacity(heap, Code::MOST_POSITIONS as usize)?;
+        let word = Vec::with_capacity(heap, POSITIONS)?;
         let lost = LostMap::new(heap)?;
         let report = Report::new(heap)?;
         Ok(Bay {
@@ -60,6 +57,7 @@ impl<F: Fixed<Q, M>, const Q: u32, const M: u32> Bay<F, Q, M> {
         ensures { Follows self.old self.new (numbered result) (loading (F.Field.means self.old.field) (held self.old) word.now map.now) }
     {
         let code = self.coded()?;
+        // Not by `fit`: the row for the map stands between the two that it tests.
         if word.len() != code.n() as usize {
             return Err(Refusal::Count);
         }

@@ -1,18 +1,15 @@
-// Each call once, over any field.
+// Each call once, over any field. The three numbers of a code go apart, as C hands them in: a struct would be made and taken apart once.
 ghost use Rattle.std.specs.Prelude.{◌≡◌, Ok, Err};
 ghost use Rattle.code.specs.Refusals.{numbered};
 ghost use Rattle.capi.specs.Status.{answer};
 ghost use Rattle.capi.specs.Outcomes.{Encoded, Tested, Restored, roomy, told};
 
 use code::word::first_failing_root;
-use code::{Code, Refusal};
+use code::{Code, POSITIONS, Refusal};
 use corrector::correct;
 use encoder::encode;
 use field::Fixed;
 use marks::spread;
-
-// Room for the erasures of the largest code.
-const POSITIONS: usize = Code::MOST_POSITIONS as usize;
 
 // How many places tell of a failing root: whether there is one, and which.
 const ROOT_PLACES: usize = 2;
@@ -20,7 +17,7 @@ const ROOT_PLACES: usize = 2;
 // The status of a call that is accepted.
 const ACCEPTED: u32 = 0;
 
-// The status of an answer: 0, or the number of the refusal.
+// The status of an answer: 0, or the number of the refusal, since C has no Result.
 pub(crate) fn status(res: Result<(), Refusal>) -> u32
     ensures { answer result ≡ numbered res }
 {
@@ -87,6 +84,7 @@ pub(crate) fn correct_word<F: Fixed<Q, M>, const Q: u32, const M: u32>(
     ensures { Restored (F.Field.means field.now) n checks first word.old map.now (numbered result) word.new }
 {
     let code = Code::new(n, checks, first)?;
+    // An array, since a call for C takes no memory.
     let mut room = [false; POSITIONS];
     let erased = &mut room[0..n as usize];
     match spread(map, erased) {

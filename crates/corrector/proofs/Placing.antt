@@ -15,9 +15,6 @@ passing_most (suc n) p = go (p n) (passing_most n p)
     go true h = let e = length-append (passing n p) (n ∷ []) in omega arith
     go false h = omega arith
 
-pub placed_start : (f : Meaning) (erased : List Bool) (B : List ℕ) → Placed f erased B 0 [] 0
-placed_start f erased B = record { is = refl; rare = omega arith; number = refl }
-
 module _ (f : Meaning) (erased : List Bool) (B : List ℕ) (n : ℕ) (places : List ℕ) (errors : ℕ) (p : Placed f erased B n places errors) where
   abbrev more : Bool → List ℕ
   more b = cond b (passing n (located f erased B) ++ (n ∷ [])) (passing n (located f erased B))

@@ -7,7 +7,7 @@ ghost use Rattle.code.specs.Shape.{shape};
 ghost use Rattle.code.specs.Refusals.{numbered};
 ghost use Rattle.corrector.specs.Corrected.{Corrected};
 
-use code::{Code, Refusal};
+use code::{Code, POSITIONS, Refusal};
 use field::Fixed;
 use received::Received;
 
@@ -18,9 +18,6 @@ mod reach;
 mod received;
 mod search;
 mod syndromes;
-
-// Room for a symbol, or a place, for each position of the largest code: local arrays, since a call on a bay takes no memory.
-const POSITIONS: usize = Code::MOST_POSITIONS as usize;
 
 // Makes the word the codeword in reach, where `erased` marks the positions whose symbols are not relied on.
 // Refuses a call that does not fit, and one with no codeword in reach; the word is then as it was.
@@ -33,6 +30,7 @@ pub fn correct<F: Fixed<Q, M>, const Q: u32, const M: u32>(
     ensures { Corrected (F.Field.means field.now) (shape code.now) erased.now word.old (numbered result) word.new }
 {
     let received = Received::new(field, *code, erased, word)?;
+    // A local array, since a call on a bay takes no memory; so in the search below.
     let mut room = [0; POSITIONS];
     let found = &mut room[..word.len()];
     received.find(found)?;

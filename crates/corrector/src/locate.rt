@@ -2,10 +2,10 @@
 ghost use Rattle.code.specs.Shape.{shape};
 ghost use Rattle.corrector.specs.MendSteps.{Placed};
 
-use crate::POSITIONS;
 use crate::pair::Pair;
 use crate::received::Received;
 use arrayvec::ArrayVec;
+use code::POSITIONS;
 use evaluation::value;
 use field::Fixed;
 

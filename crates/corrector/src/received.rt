@@ -6,7 +6,7 @@ use code::FieldCode;
 
 mod ops;
 
-// A word as it was received, with its erasures, of a code over a field: what a correction starts from.
+// A word as it was received, with its erasures, of a code over a field: what a correction starts from. Two rows, as they are handed in.
 #[derive(Drop)]
 pub(crate) struct Received<'a, F, const Q: u32, const M: u32> {
     pub(crate) over: FieldCode<'a, F, Q, M>,

@@ -1,4 +1,4 @@
-// The search for the codeword in reach.
+// The search for the codeword in reach. That `out` is as long as the code is a clause, since a slice that is written has no type that says it.
 ghost use Rattle.std.specs.Prelude.{◌≡◌, ◌≤◌, length, is_ok};
 ghost use Rattle.code.specs.Shape.{shape};
 ghost use Rattle.code.specs.Words.{marked};
@@ -8,15 +8,13 @@ use crate::pair::Pair;
 use crate::reach::OutOfReach;
 use crate::received::Received;
 use crate::syndromes::{modify, write_syndromes};
-use code::Code;
+use code::CHECKS;
 use code::word::is_below;
 use field::Fixed;
 use solver::solve;
 
-// Room for the syndromes of the largest code, and for the coefficients of half a pair.
-const SYNDROMES: usize = Code::MOST_CHECKS as usize;
-
-const COEFFICIENTS: usize = SYNDROMES + 1;
+// Room for the coefficients of half a pair: one more than there are syndromes.
+const COEFFICIENTS: usize = CHECKS + 1;
 
 impl<'a, F: Fixed<Q, M>, const Q: u32, const M: u32> Received<'a, F, Q, M> {
     // Locates and mends by an evaluator and a locator, where s positions are erased. A refusal says that these show no codeword in reach.
@@ -91,7 +89,7 @@ impl<'a, F: Fixed<Q, M>, const Q: u32, const M: u32> Received<'a, F, Q, M> {
         requires room { length out.old ≡ (shape self.now.over.code).n }
         ensures { Found (F.Field.means self.now.over.field.now) (shape self.now.over.code) self.now.erased.now self.now.word.now (is_ok result) out.new }
     {
-        let mut row = [0; SYNDROMES];
+        let mut row = [0; CHECKS];
         let checks = self.over.code.checks() as usize;
         self.find_with(&mut row[..checks], out)
     }

@@ -18,10 +18,8 @@ pub(crate) fn write_syndromes<F: Fixed<Q, M>, const Q: u32, const M: u32>(
     requires symbols { Within Q word.now }
     ensures { Syndromes (F.Field.means over.now.field.now) (shape over.now.code) word.now syndromes.new }
 {
-    let mut t = over.code.first_root();
-    for syndrome in syndromes.iter_mut() {
-        *syndrome = value(over.field, word, t);
-        t += 1;
+    for (j, syndrome) in syndromes.iter_mut().enumerate() {
+        *syndrome = value(over.field, word, over.code.first_root() + j as u32);
     }
 }
 

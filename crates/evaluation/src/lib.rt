@@ -20,6 +20,7 @@ pub fn value<F: Fixed<Q, M>, const Q: u32, const M: u32>(
     let mut total = 0;
     let mut e = 0;
     for x in polynomial {
+        // By `as`, as in `powers`.
         total = field.sum(total, field.product(*x, field.power(e as u16)));
         e += step;
         if e >= M {

@@ -25,6 +25,7 @@ fn fill(g: &mut [u32]) {
 
 // The same solve again and again.
 fn repeat(g: &[u32], rounds: u32, left: &mut [u32], right: &mut [u32]) {
+    // Never 0 here: a row has 512 places at most.
     let n = u32::try_from(g.len()).unwrap_or(0);
     for _ in 0..rounds {
         let _ = solve(&F929 {}, g, n, -1, left, right);

@@ -2,7 +2,7 @@
 ghost use Rattle.std.specs.Prelude.{◌≡◌, ℕ, ◌+◌, ◌/◌, ◌<◌, ◌≤◌, true, ◌&&◌, length, Ok, Err, is_ok, if◌then◌else◌, count_by, nat_le};
 ghost use Rattle.marks.specs.Marks.{bit_at, marks, tidy, Clean};
 
-use code::{Code, Refusal};
+use code::{POSITIONS, Refusal};
 
 // How many bytes n positions take.
 pub(crate) fn bytes_for(n: u32) -> usize
@@ -44,7 +44,7 @@ pub fn spread(map: &[u8], out: &mut [bool]) -> Result<(), Refusal>
     ensures value { result ≡ (if nat_le (length out.old) 928 && tidy (length out.old) map.now then Ok tt else Err Refusal.Map) }
     ensures after { out.new ≡ (if is_ok result then marks (length out.old) map.now else out.old) }
 {
-    if out.len() > Code::MOST_POSITIONS as usize || !is_tidy(map, out.len() as u32) {
+    if out.len() > POSITIONS || !is_tidy(map, out.len() as u32) {
         return Err(Refusal::Map);
     }
     write_marks(map, out);

@@ -5,7 +5,7 @@ ghost use Rattle.report.specs.Changes.{reported, reportable};
 ghost use Rattle.report.specs.Told.{told};
 
 use super::{Change, Report};
-use code::{Code, Refusal};
+use code::{CHECKS, POSITIONS, Refusal};
 use std::alloc::{AllocError, Global};
 
 impl Report {
@@ -13,7 +13,7 @@ impl Report {
     pub fn new(heap: Global) -> Result<Report, AllocError>
         ensures { IfOk result (λ t. told t ≡ no_report) }
     {
-        let changes = Vec::with_capacity(heap, Code::MOST_CHECKS as usize)?;
+        let changes = Vec::with_capacity(heap, CHECKS)?;
         Ok(Report { met: 0, changes })
     }
 
@@ -40,12 +40,12 @@ impl Report {
         ensures after { told self.new ≡ (if is_ok result then reported met old.now new.now else no_report) }
     {
         self.clear();
-        if new.len() != old.len() || old.len() > Code::MOST_POSITIONS as usize {
+        if new.len() != old.len() || old.len() > POSITIONS {
             return Err(Refusal::Count);
         }
         for (position, (former, now)) in old.iter().zip(new).enumerate() {
             if former != now {
-                if self.changes.len() == Code::MOST_CHECKS as usize {
+                if self.changes.len() == CHECKS {
                     self.clear();
                     return Err(Refusal::Count);
                 }

@@ -1,5 +1,5 @@
-// The loop of a bench program: bytes go in and answers out. It is a macro, since a program's `main` alone has the runtime,
-// and the contract that a public function here has could not speak of what is read and printed.
+// The loop of a bench program: bytes go in and answers out. It is a macro, since a public function here has a contract, and none could
+// speak of what is read and printed.
 
 // Reads lines from the standard input of the runtime `$rt`, and answers each on its standard output.
 #[macro_export]

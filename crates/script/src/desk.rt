@@ -18,7 +18,8 @@ pub type ReelBay = Bay<F256, 256, 255>;
 
 pub type ControlBay = Bay<F16, 16, 15>;
 
-// Where a session is: before its first line, over one of the fields, or at its end.
+// Where a session is: before its first line, over one of the fields, or at its end. An enum, since a function cannot make a dyn value
+// and hand it out; its arms differ in the bay's type alone.
 #[derive(Drop)]
 pub enum Desk {
     Waiting,

@@ -4,14 +4,12 @@ ghost use Rattle.script.specs.Requests.{requested};
 ghost use Rattle.script.specs.Asking.{sought};
 
 use calls::Call;
-use code::Code;
+use code::{CHECKS, POSITIONS};
 use std::alloc::{AllocError, Global};
 use text::line::Sentence;
 
-// Room for the largest word, and for the largest report.
-const WORD_ROOM: usize = Code::MOST_POSITIONS as usize;
-
-const REPORT_ROOM: usize = 2 + 2 * Code::MOST_CHECKS as usize;
+// Room for the largest report.
+const REPORT_ROOM: usize = 2 + 2 * CHECKS;
 
 // The call that a letter and its numbers ask for, or nothing.
 pub fn request(heap: Global, sentence: Sentence) -> Result<Option<Call>, AllocError>
@@ -31,7 +29,7 @@ pub fn request(heap: Global, sentence: Sentence) -> Result<Option<Call>, AllocEr
         ('E', []) => Call::Encode,
         ('C', []) => Call::Correct,
         ('T', []) => Call::Test,
-        ('W', []) => Call::Read(vec![in heap; 0u32; WORD_ROOM]?),
+        ('W', []) => Call::Read(vec![in heap; 0u32; POSITIONS]?),
         ('Q', []) => Call::Report(vec![in heap; 0u32; REPORT_ROOM]?),
         _ => return Ok(None),
     };

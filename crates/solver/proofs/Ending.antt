@@ -197,7 +197,7 @@ module _ (f : Meaning) (w : Laws f) where
           up (right j) h = L.nil_of f w _ (held.two.symbols.right_in j) (held.basis.right.above j h)
 
       module _ (xs ys xs' ys' : List ℕ) (found : ℕ × ℕ × Side) (lx : length xs' ≡ length xs) (ly : length ys' ≡ length ys) where
-        pub solved_on : (side : Side) → OnSide.Lower l m a.top b.top side → Written f side (n + 1) (on side a b) xs ys xs' ys' found → Solved f g n r xs ys xs' ys' found
+        pub solved_on : (side : Side) → OnSide.IsLower l m a.top b.top side → Written f side (n + 1) (on side a b) xs ys xs' ys' found → Solved f g n r xs ys xs' ys' found
         solved_on side.Left le k =
             solved n r g a hg held.one held.basis.inl (left a.top) refl left_leads (left_lowest n g hg _ _ _ _ _ _ held.basis le) xs ys xs' ys' found lx ly k
         solved_on side.Right lt k =

@@ -1,5 +1,5 @@
--- The coefficients of products of rows, and rows that are cut where they are 0.
-use Rattle.std.proofs.Common.{◌≡◌, ℕ, zero, suc, ◌-◌, ◌<◌, ◌≤◌, List, get_or, take, sym, ap, ◌∙◌, arith, length-take, get_or-take}
+-- The coefficients of products of rows, a multiple of a row added place by place, and rows that are cut where they are 0.
+use Rattle.std.proofs.Common.{◌≡◌, ℕ, zero, suc, ◌-◌, ◌<◌, ◌≤◌, List, get_or, take, sym, ap, ◌∙◌, arith, length-take, get_or-take, length, set, subst, get_or-set_other, get_or-set_same}
 use mathlib.Core.Path.{fun_ext}
 use native.Mathlib.Decide.{ℕ_discrete, dec_lt}
 use Rattle.std.proofs.lemmas.List.{get_or_past}
@@ -9,6 +9,17 @@ use Rattle.field.specs.Symbols.{Within}
 use Rattle.field.specs.Sums.{sum_of, coefficient}
 use Rattle.field.specs.Lifted.{lift, sym_of}
 use Rattle.field.proofs.Lifting.{total_in, zero_of, prod_of, nil_of}
+use Rattle.solver.specs.RowSteps.{Mixed}
+
+-- a multiple of a row, place by place
+pub mixed_more : (f : Meaning) (c n : ℕ) (xs to ys : List ℕ) (v : ℕ) → Mixed f c n xs to ys → n < length ys → v ≡ f.sum (get_or ys n 0) (f.prod c (get_or xs n 0)) → Mixed f c (suc n) xs to (set ys n v)
+mixed_more f c n xs to ys v r h e = record {
+  done = λ j w. elim (ℕ_discrete j n) [
+    | yes z ↦ subst (λ i. get_or (set ys n v) i 0 ≡ f.sum (get_or to i 0) (f.prod c (get_or xs i 0))) (sym z) (get_or-set_same ys n v 0 h ∙ e ∙ ap (λ t. f.sum t (f.prod c (get_or xs n 0))) (r.rest n (omega arith)))
+    | no z ↦ get_or-set_other ys n j v 0 z ∙ r.done j (omega arith)
+  ];
+  rest = λ j w. get_or-set_other ys n j v 0 (omega arith) ∙ r.rest j (omega arith);
+}
 
 -- what is 0 from size on is the same once it is cut there
 pub cut_same : (size : ℕ) (b : List ℕ) → ((i : ℕ) → size ≤ i → get_or b i 0 ≡ 0) → (i : ℕ) → get_or (take size b) i 0 ≡ get_or b i 0

@@ -8,6 +8,6 @@ on Left x y = x
 on Right x y = y
 
 -- of x^i on the left and x^j on the right, the lower in the order l - m is on this side
-abbrev pub Lower : ℕ → ℕ → ℕ → ℕ → Side → Type 0
-Lower l m i j Left = i + m ≤ j + l
-Lower l m i j Right = j + l < i + m
+abbrev pub IsLower : ℕ → ℕ → ℕ → ℕ → Side → Type 0
+IsLower l m i j Left = i + m ≤ j + l
+IsLower l m i j Right = j + l < i + m

@@ -1,6 +1,6 @@
 // The order r on terms, told without signs.
 ghost use Rattle.std.specs.Prelude.{◌≡◌, ◌<◌, ◌≤◌, pos, negsuc, ◌+ℤ◌, ◌≤ℤ◌};
-ghost use Rattle.solver.specs.Sides.{Lower};
+ghost use Rattle.solver.specs.Sides.{IsLower};
 
 use crate::Side;
 
@@ -28,7 +28,7 @@ impl Order {
     // The side of the lower of the terms x^i on the left and x^j on the right.
     pub(crate) fn lower(self, i: usize, j: usize) -> Side
         requires { (i ≤ 512) × (j ≤ 512) }
-        ensures { Lower self.plus self.minus i j result }
+        ensures { IsLower self.plus self.minus i j result }
     {
         if i + self.minus <= j + self.plus {
             Side::Left

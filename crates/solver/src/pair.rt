@@ -11,8 +11,8 @@ use field::Field;
 pub(crate) const ROOM: usize = 513;
 
 // A pair of polynomials, the exponent of its leading term, and how many places of its halves are in use. The halves are
-// arrays with a size beside them, since a call takes no memory from the heap. That they hold symbols stands in clauses,
-// since a pair does not know its field.
+// arrays with a size beside them, since a call takes no memory from the heap. That they hold symbols stands in clauses:
+// in the type, it would take the field's Q and M as parameters of every function here.
 #[derive(Drop)]
 pub(crate) struct Pair {
     pub(crate) top: usize,
@@ -63,7 +63,8 @@ impl Pair {
         self.size = self.size.max(low.size);
     }
 
-    // The coefficient of the leading term, which is on this side.
+    // The coefficient of the leading term, which is on this side. One choice of numbers here, one of pairs in Basis::pair: a generic
+    // one would be longer than both.
     pub(crate) fn leading(&self, side: Side) -> u32
         requires { self.now.top < 513 }
         ensures { result ≡ slice_index (on side self.now.left self.now.right) self.now.top }

@@ -1,4 +1,5 @@
-// Rows of symbols as polynomials, lowest coefficient first, worked in place.
+// Rows of symbols as polynomials, lowest coefficient first, worked in place. A factor is a plain number that a clause bounds, as a
+// field is asked by plain numbers.
 ghost use Rattle.std.specs.Prelude.{◌≡◌, ◌+◌, ◌<◌, ◌≤◌, length};
 ghost use Rattle.field.specs.Symbols.{Within};
 ghost use Rattle.field.specs.Sums.{coefficient};
@@ -23,6 +24,7 @@ pub(crate) fn scale_into<F: Field>(field: &F, c: u32, from: &[u32], to: &mut [u3
     requires read { Within (F.Field.means field.now).q from.now }
     ensures { Scaled (F.Field.means field.now) c (length from.now) from.now to.old to.new }
 {
+    // Not by zip, after which a proof knows nothing of what was written.
     for (i, place) in to[..from.len()].iter_mut().enumerate() {
         *place = field.product(c, from[i]);
     }
@@ -36,7 +38,7 @@ pub(crate) fn product_at<F: Field>(field: &F, b: &[u32], g: &[u32], k: usize) ->
     ensures { result ≡ coefficient (F.Field.means field.now) k b.now g.now }
 {
     let mut total = 0;
-    // By index, since a zip with the reversed row proves too, but takes 7 percent more instructions here, in the innermost loop.
+    // By index, since a zip with the reversed row proves too, but takes 7 percent more instructions in this innermost loop: solve is slower than it was.
     for (i, x) in b.iter().enumerate() {
         total = field.sum(total, field.product(*x, g[k - i]));
     }

@@ -17,7 +17,8 @@ pub struct Sentence {
     pub numbers: Vec<u32>,
 }
 
-// The numbers that a text spells after its first space, or nothing where it spells none.
+// The numbers that a text spells after its first space, or nothing where it spells none. Digit by digit, since the library's parse takes
+// a sign too, and any number of digits.
 fn read_numbers(heap: Global, rest: &[u8]) -> Result<Option<Vec<u32>>, AllocError>
     ensures { IfOk result (λ found. MatchOption found (SpellsNothing (32 ∷ rest.now)) (λ v. Spells (32 ∷ rest.now) v.items)) }
 {

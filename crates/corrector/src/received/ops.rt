@@ -23,6 +23,7 @@ impl<'a, F: Fixed<Q, M>, const Q: u32, const M: u32> Received<'a, F, Q, M> {
             (λ e. fitting_erased (F.Field.means field.now) (shape code) erased.now word.now ≡ Err (number e)) }
     {
         let over = FieldCode::new(field, code)?;
+        // Not by `fit`: the row for the erasures stands between the two that it tests.
         let n = code.n() as usize;
         if word.len() != n {
             return Err(Refusal::Count);

@@ -42,12 +42,12 @@ loop-position-preserved-then-former-now c =
     ∙ ap (λ t. added t change.position change.former) c.loop-position.invariant
     ∙ told_more _ _ _ _ _ _ (met at) c.if-former-now.true ∙ more at
 
-pub returns-then-len-clause-value : goal.returns-then-len-clause-value
-returns-then-len-clause-value c =
-    let at = (goal.at.returns-then-len-clause-value c).In-Some in
+pub returns-then-len-eq-CHECKS-clause-value : goal.returns-then-len-eq-CHECKS-clause-value
+returns-then-len-eq-CHECKS-clause-value c =
+    let at = (goal.at.returns-then-len-eq-CHECKS-clause-value c).In-Some in
     let r = c.loop-position.self in
     let places : length (told r).places ≡ length (so_far c.args.old.now c.args.new.now (length c.loop-position.yielded)).places = ap (λ t. length t.places) c.loop-position.invariant in
-    let full : 512 ≤ length (so_far c.args.old.now c.args.new.now (length c.loop-position.yielded)).places = omega (arith, places, kept r, c.len.ensures, c.if-len.true) in
+    let full : 512 ≤ length (so_far c.args.old.now c.args.new.now (length c.loop-position.yielded)).places = omega (arith, places, kept r, c.len.ensures, c.if-len-eq-CHECKS.true) in
     sym (ap (λ b. cond b (Ok tt) (Err refusal.Count)) (too_many _ _ _ _ _ _ (met at) c.if-former-now.true full))
 
 pub returns-clause-value : goal.returns-clause-value
@@ -59,4 +59,4 @@ returns-clause-value c =
     let all : told c.loop-position.self ≡ so_far w v (length w) = c.loop-position.invariant ∙ ap (so_far w v) (end.1 ∙ turns w v c.if-new-old.false) in
     let places : length (told c.loop-position.self).places ≡ length (changes w v) = ap (λ t. length t.places) all in
     let short : length (changes w v) ≤ 512 = omega (arith, places, kept c.loop-position.self, c.loop-position.self.few) in
-    ap (λ b. cond b (Ok tt) (Err refusal.Count)) (few w v c.if-new-old.false c.if-old.false short)
+    ap (λ b. cond b (Ok tt) (Err refusal.Count)) (few w v c.if-new-old.false c.if-old-gt-POSITIONS.false short)
