@@ -19,7 +19,7 @@ pub enum Kind {
 
 impl Kind {
     // How many symbols there are.
-    fn symbols(&self) -> u32
+    pub fn symbols(&self) -> u32
         ensures { result ≡ size self.now }
     {
         match self {
@@ -194,7 +194,7 @@ impl Arithmetic {
     }
 
     // One number less another.
-    pub(crate) fn difference(&self, x: u32, y: u32) -> u32
+    pub fn difference(&self, x: u32, y: u32) -> u32
         ensures symbol { result < size self.now.kind }
         ensures value { result ≡ sum self.now.kind x (opposite self.now.kind y) }
     {

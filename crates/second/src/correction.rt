@@ -6,11 +6,13 @@ use crate::words::Shape;
 use std::alloc::AllocError;
 
 // A word of a code as it came, and whether each of its positions is marked.
-#[derive(Drop)]
-pub struct Received {
+// It holds no field, since the library's side of a trial takes the same values over a field of its own type.
+// Two rows, since marks of another length than the word are a case too.
+#[derive(Clone, Copy)]
+pub struct Received<'a> {
     pub shape: Shape,
-    pub word: Vec<u32>,
-    pub marks: Vec<bool>,
+    pub word: &'a [u32],
+    pub marks: &'a [bool],
 }
 
 // The recurrence of length e that some numbers keep: its coefficients, lowest first, below a leading 1.
@@ -45,20 +47,20 @@ fn advance(word: &mut [u32], q: u32) {
     }
 }
 
-impl Received {
+impl Received<'_> {
     // How many positions are marked.
     fn marked(&self) -> usize {
         self.marks.iter().filter(|mark| **mark).count()
     }
 
     // Whether a word is a codeword in reach: a mark counts once, another difference twice, and all of them at most the checks.
+    // A position past the marks is unmarked, and past the word there are zeros.
     fn reaches(&self, field: &Arithmetic, codeword: &[u32]) -> bool {
-        let pairs = self.word.iter().zip(codeword);
-        let cost = self.marks.iter().zip(pairs).fold(
+        let cost = codeword.iter().enumerate().fold(
             0u32,
-            |cost, (mark, (x, y))| if *mark {
+            |cost, (i, x)| if self.marks.get(i).copied().unwrap_or(false) {
                 cost.saturating_add(1)
-            } else if x != y {
+            } else if at(self.word, i) != *x {
                 cost.saturating_add(2)
             } else {
                 cost
@@ -118,7 +120,7 @@ impl Received {
 
     // The word with e errors and the marks mended, whether that is a codeword or not.
     fn mended(&self, field: &Arithmetic, e: usize) -> Result<Option<Vec<u32>>, AllocError> {
-        let sums = self.shape.check_sums(field, &self.word)?;
+        let sums = self.shape.check_sums(field, self.word)?;
         let rest = self.less_marks(field, &sums)?;
         let Some(below) = recurrence(field, &rest, e)? else {
             return Ok(None);
@@ -146,13 +148,13 @@ impl Received {
     }
 
     // The codeword in reach, by going through all words of a code that has few: from `tried`, a word of zeros, on.
-    pub fn by_trying(&self, field: &Arithmetic, mut tried: Vec<u32>) -> Option<Vec<u32>> {
+    pub fn by_trying<'t>(&self, field: &Arithmetic, tried: &'t mut [u32]) -> Option<&'t [u32]> {
         let q = field.symbols();
         for _ in 0..u64::from(q).saturating_pow(self.shape.n) {
-            if self.reaches(field, &tried) {
+            if self.reaches(field, tried) {
                 return Some(tried);
             }
-            advance(&mut tried, q);
+            advance(tried, q);
         }
         None
     }

@@ -13,6 +13,7 @@ pub enum Term {
 
 impl Term {
     // How high the term stands in order r: x^i on the left is lower than x^j on the right where i is at most j + r.
+    // The Boolean only orders: of two terms of one height the left one is lower.
     fn height(&self, r: i32) -> (i128, bool) {
         match *self {
             Term::Left(i) => (i as i128, false),

@@ -4,6 +4,7 @@ use crate::equations::solution;
 use std::alloc::AllocError;
 
 // n positions, of which the first `checks` are the checks, and the exponent of the first root.
+// It holds no field, since the library's side of a trial takes the same values over a field of its own type.
 #[derive(Clone, Copy)]
 pub struct Shape {
     pub n: u32,
@@ -60,9 +61,8 @@ impl Shape {
     // Replaces the checks of a word so that it is a codeword: the check equations, solved for the checks.
     pub fn encode(&self, field: &Arithmetic, word: &mut [u32]) -> Result<(), AllocError> {
         let checks = self.checks as usize;
-        for x in word.iter_mut().take(checks) {
-            *x = 0;
-        }
+        let end = checks.min(word.len());
+        word[..end].fill(0);
         let positions: Vec<usize> = (0..checks).collect(field.heap)?;
         let sums = self.check_sums(field, word)?;
         if let Some(found) = self.amounts(field, &positions, &sums)? {

@@ -4,6 +4,7 @@ use second::arithmetic::Arithmetic;
 use second::places::put;
 use second::words::Shape;
 use std::alloc::{AllocError, Global};
+use std::fmt;
 
 // Numbers at the edges of the rules.
 const EDGES: [u32; 18] = [
@@ -18,6 +19,17 @@ const MOST: u32 = 1000;
 pub struct Batch {
     pub most: u32,
     pub count: u32,
+}
+
+// A code's three numbers, as a text names them.
+#[derive(Clone, Copy)]
+pub struct Numbers(pub Shape);
+
+impl fmt::Display for Numbers {
+    fn fmt<W: fmt::Write>(&self, f: &mut fmt::Formatter<W>) -> fmt::Result {
+        let Shape { n, checks, first } = self.0;
+        write!(f, "{n} {checks} {first}")
+    }
 }
 
 // What the cases over one field are made of: random numbers, the second implementation of the field, and memory.

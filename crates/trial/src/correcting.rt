@@ -1,6 +1,6 @@
 // Correcting a word with its marks.
 
-use crate::cases::{Batch, Cases};
+use crate::cases::{Batch, Cases, Numbers};
 use crate::proved;
 use crate::random::Random;
 use crate::tally::{Outcome, Row, Tally};
@@ -12,18 +12,37 @@ use second::rules::{Rule, check_word};
 use second::words::Shape;
 use std::alloc::AllocError;
 
+// A word of a code that damage is done to, and whether each of its positions is marked.
+#[derive(Drop)]
+struct Damaged {
+    shape: Shape,
+    word: Vec<u32>,
+    marks: Vec<bool>,
+}
+
+impl Damaged {
+    // The word as it comes to the corrector.
+    fn received(&self) -> Received<'_> {
+        Received {
+            shape: self.shape,
+            word: &self.word,
+            marks: &self.marks,
+        }
+    }
+}
+
 // The second implementation's codeword in reach of a word, where there is one.
 type Sought = Result<Option<Vec<u32>>, AllocError>;
 
 // As the second implementation corrects, by one of its ways to look for the codeword in reach.
 fn second_way<S: FnOnce() -> Sought>(
     cases: &Cases,
-    got: &Received,
+    got: Received,
     sought: S,
 ) -> Result<Outcome<(), Vec<u32>>, AllocError>
     requires { S.IsAlwaysCallable sought }
 {
-    let corrected = match check_word(cases.second, got.shape, &got.word, got.marks.len()) {
+    let corrected = match check_word(cases.second, got.shape, got.word, got.marks.len()) {
         Ok(()) => sought()?.ok_or(Rule::OutOfReach),
         Err(rule) => Err(rule),
     };
@@ -43,24 +62,19 @@ fn second_way<S: FnOnce() -> Sought>(
 fn compare<F: Fixed<Q, M>, const Q: u32, const M: u32, S: FnOnce() -> Sought>(
     field: &F,
     cases: &Cases,
-    got: &Received,
+    got: Received,
     sought: S,
     tally: &mut Tally,
 ) -> Result<(), AllocError>
     requires { S.IsAlwaysCallable sought }
 {
     let mut after = got.word.to_vec(cases.heap)?;
-    let answer = proved::correct(field, got.shape, &got.marks, &mut after);
+    let answer = proved::correct(field, got.shape, got.marks, &mut after);
     let first = Outcome { answer, after };
     let other = second_way(cases, got, sought)?;
-    let Shape {
-        n,
-        checks,
-        first: root,
-    } = got.shape;
-    let word = &got.word;
-    let marks = &got.marks;
-    let case = format_args!("{Q}: code {n} {checks} {root}, correct {word:?} {marks:?}");
+    let Received { shape, word, marks } = got;
+    let code = Numbers(shape);
+    let case = format_args!("{Q}: code {code}, correct {word:?} {marks:?}");
     tally.compare_outcomes(case, &first, &other)
 }
 
@@ -86,7 +100,7 @@ fn any_errors(random: &mut Random, shape: Shape, marked: u32) -> u32 {
 }
 
 // Puts other symbols at some positions, which may fall together.
-fn damage(cases: &mut Cases, errors: u32, got: &mut Received) {
+fn damage(cases: &mut Cases, errors: u32, got: &mut Damaged) {
     for _ in 0..errors {
         let i = cases.random.below(got.shape.n);
         put(&mut got.word, i as usize, cases.symbol());
@@ -94,7 +108,7 @@ fn damage(cases: &mut Cases, errors: u32, got: &mut Received) {
 }
 
 // Marks some positions, at which symbols may change or not.
-fn mark(cases: &mut Cases, count: u32, got: &mut Received) {
+fn mark(cases: &mut Cases, count: u32, got: &mut Damaged) {
     for _ in 0..count {
         let i = cases.random.below(got.marks.len().min(1000) as u32) as usize;
         if let Some(mark) = got.marks.get_mut(i) {
@@ -107,13 +121,13 @@ fn mark(cases: &mut Cases, count: u32, got: &mut Received) {
 }
 
 // A codeword with marks and errors; at times a word far from any codeword.
-fn damaged_codeword(cases: &mut Cases, shape: Shape) -> Result<Received, AllocError> {
+fn damaged_codeword(cases: &mut Cases, shape: Shape) -> Result<Damaged, AllocError> {
     let mut word = cases.symbols(shape.n)?;
     if !cases.random.one_in(16) {
         shape.encode(cases.second, &mut word)?;
     }
     let marks = vec![in cases.heap; false; shape.n as usize]?;
-    let mut got = Received { shape, word, marks };
+    let mut got = Damaged { shape, word, marks };
     let marked = any_marked(cases.random, shape.checks);
     mark(cases, marked, &mut got);
     let errors = any_errors(cases.random, shape, marked);
@@ -122,12 +136,12 @@ fn damaged_codeword(cases: &mut Cases, shape: Shape) -> Result<Received, AllocEr
 }
 
 // Numbers that may be no code, no word or not its marks.
-fn unfit(cases: &mut Cases) -> Result<Received, AllocError> {
+fn unfit(cases: &mut Cases) -> Result<Damaged, AllocError> {
     let shape = cases.any_shape();
     let word = cases.any_word(shape.n)?;
     let n = cases.any_length(shape.n);
     let marks = cases.marks(n, 4)?;
-    Ok(Received { shape, word, marks })
+    Ok(Damaged { shape, word, marks })
 }
 
 // Words of any code, against linear equations, and calls that are refused.
@@ -139,14 +153,16 @@ pub fn run<F: Fixed<Q, M>, const Q: u32, const M: u32>(
 ) -> Result<(), AllocError> {
     for _ in 0..count {
         let shape = cases.code();
-        let got = damaged_codeword(cases, shape)?;
+        let damaged = damaged_codeword(cases, shape)?;
+        let got = damaged.received();
         let second = cases.second;
-        compare(field, cases, &got, || got.by_equations(second), tally)?;
+        compare(field, cases, got, || got.by_equations(second), tally)?;
     }
     for _ in 0..count / 8 {
-        let got = unfit(cases)?;
+        let unfit = unfit(cases)?;
+        let got = unfit.received();
         let second = cases.second;
-        compare(field, cases, &got, || got.by_equations(second), tally)?;
+        compare(field, cases, got, || got.by_equations(second), tally)?;
     }
     Ok(())
 }
@@ -162,14 +178,19 @@ pub fn run_all_words<F: Fixed<Q, M>, const Q: u32, const M: u32>(
         let n = cases.random.between(2, batch.most);
         let checks = cases.random.between(1, n.saturating_sub(1));
         let first = cases.random.below(cases.second.turn());
-        let got = damaged_codeword(cases, Shape { n, checks, first })?;
+        let damaged = damaged_codeword(cases, Shape { n, checks, first })?;
+        let got = damaged.received();
         let second = cases.second;
-        let zeros = vec![in cases.heap; 0; got.word.len()]?;
+        let heap = cases.heap;
+        let mut zeros = vec![in heap; 0; got.word.len()]?;
         compare(
             field,
             cases,
-            &got,
-            || Ok(got.by_trying(second, zeros)),
+            got,
+            || {
+                let found = got.by_trying(second, &mut zeros);
+                found.map(|codeword| codeword.to_vec(heap)).transpose()
+            },
             tally,
         )?;
     }

@@ -1,5 +1,5 @@
 // Encoding.
-use crate::cases::Cases;
+use crate::cases::{Cases, Numbers};
 use crate::proved;
 use crate::tally::{Outcome, Row, Tally};
 use field::Fixed;
@@ -36,12 +36,8 @@ fn compare<F: Fixed<Q, M>, const Q: u32, const M: u32>(
     let answer = proved::encode(field, shape, &mut after);
     let first = Outcome { answer, after };
     let other = second_way(cases.second, shape, word.to_vec(cases.heap)?)?;
-    let Shape {
-        n,
-        checks,
-        first: root,
-    } = shape;
-    let case = format_args!("{Q}: code {n} {checks} {root}, encode {word:?}");
+    let code = Numbers(shape);
+    let case = format_args!("{Q}: code {code}, encode {word:?}");
     tally.compare_outcomes(case, &first, &other)
 }
 

@@ -104,6 +104,7 @@ impl fmt::Display for Tallies {
 }
 
 // All comparisons over one field, `searched` being those beside a search among all words.
+// Field, cases and tally go apart: as a method over an inner &mut, goals stayed open.
 fn run<F: Fixed<Q, M>, const Q: u32, const M: u32>(
     field: &F,
     kind: Kind,

@@ -8,7 +8,7 @@ use second::pairs::{Pair, Term, least};
 use second::places::{at, put};
 use second::rules::check_request;
 use solver::{LeastPair, Side, solve};
-use std::alloc::{AllocError, Global};
+use std::alloc::AllocError;
 
 // What a call of the solver is given, but for the field: the coefficients, their number, the order, and the two buffers.
 #[derive(Drop)]
@@ -20,20 +20,10 @@ struct Request {
 }
 
 // What the buffers of a call hold.
-#[derive(PartialEq, Debug, Drop)]
+#[derive(Clone, PartialEq, Debug, Drop)]
 struct Buffers {
     left: Vec<u32>,
     right: Vec<u32>,
-}
-
-impl Buffers {
-    // A copy of what they hold.
-    fn copied(&self, heap: Global) -> Result<Buffers, AllocError> {
-        Ok(Buffers {
-            left: self.left.to_vec(heap)?,
-            right: self.right.to_vec(heap)?,
-        })
-    }
 }
 
 // How many coefficients there are up to the last that is not 0.
@@ -55,6 +45,7 @@ fn first_way<F: Fixed<Q, M>, const Q: u32, const M: u32>(
 }
 
 // Writes a half over the front of a buffer.
+// By zip, since nothing here shows the room that copy_from_slice asks for.
 fn write_over(half: &[u32], buffer: &mut [u32]) {
     for (place, x) in buffer.iter_mut().zip(half) {
         *place = *x;
@@ -126,10 +117,8 @@ fn arrange(cases: &mut Cases, g: &mut [u32]) {
         }
     }
     if cases.random.one_in(4) {
-        let zeros = cases.random.below(8);
-        for x in g.iter_mut().take(zeros as usize) {
-            *x = 0;
-        }
+        let zeros = (cases.random.below(8) as usize).min(g.len());
+        g[..zeros].fill(0);
     }
 }
 
@@ -167,10 +156,10 @@ pub fn run<F: Fixed<Q, M>, const Q: u32, const M: u32>(
 ) -> Result<(), AllocError> {
     for _ in 0..batch.count {
         let asked = any_request(cases, batch.most)?;
-        let mut after = asked.buffers.copied(cases.heap)?;
+        let mut after = asked.buffers.clone()?;
         let answer = first_way(field, &asked, &mut after);
         let first = Outcome { answer, after };
-        let mut after = asked.buffers.copied(cases.heap)?;
+        let mut after = asked.buffers.clone()?;
         let answer = second_way(cases.second, &asked, &mut after)?;
         let other = Outcome { answer, after };
         let Request { g, n, r, buffers } = &asked;

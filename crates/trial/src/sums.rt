@@ -1,5 +1,5 @@
 // Check sums and the test of a word.
-use crate::cases::Cases;
+use crate::cases::{Cases, Numbers};
 use crate::proved;
 use crate::tally::{Outcome, Row, Tally};
 use field::Fixed;
@@ -40,12 +40,8 @@ fn compare<F: Fixed<Q, M>, const Q: u32, const M: u32>(
         answer: second_way(cases.second, shape, word, j),
         after: (),
     };
-    let Shape {
-        n,
-        checks,
-        first: root,
-    } = shape;
-    let case = format_args!("{Q}: code {n} {checks} {root}, word {word:?}, sum {j}");
+    let code = Numbers(shape);
+    let case = format_args!("{Q}: code {code}, word {word:?}, sum {j}");
     tally.compare_outcomes(case, &first, &other)
 }
 

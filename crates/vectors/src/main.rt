@@ -83,6 +83,7 @@ fn other(x: u32, q: u32) -> u32 {
 }
 
 // Whether a word comes back after some damage.
+// The field stands beside the word, which is read before its number names a type.
 fn comes_back<F: Fixed<Q, M>, const Q: u32, const M: u32>(
     field: &F,
     vector: Vector,
@@ -115,9 +116,8 @@ fn is_encoded_again<F: Fixed<Q, M>, const Q: u32, const M: u32>(
 ) -> Result<bool, AllocError> {
     let Vector { code, word } = vector;
     let mut again = word.to_vec(heap)?;
-    for x in again.iter_mut().take(code.checks() as usize) {
-        *x = 0;
-    }
+    let checks = (code.checks() as usize).min(again.len());
+    again.as_mut_slice()[..checks].fill(0);
     let answer = encode(field, &code, &mut again);
     Ok(answer.is_ok() && again.as_slice() == word)
 }
@@ -170,6 +170,7 @@ fn try_line(rt: &HostRuntime, numbers: &[u32], tallies: &mut Tallies) -> io::Res
     let [q, checks, first, word @ ..] = numbers else {
         return println!(rt; "a line without a code");
     };
+    // 0 stands for more symbols than a u32 counts; no code has either number.
     let Ok(code) = Code::new(u32::try_from(word.len()).unwrap_or(0), *checks, *first) else {
         return println!(rt; "a line with no code");
     };
