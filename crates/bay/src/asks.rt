@@ -18,6 +18,7 @@ impl<F: Fixed<Q, M>, const Q: u32, const M: u32> Bay<F, Q, M> {
     }
 
     // How many positions the word has: 0 where there is no code.
+    // A number and no Option: a bay without a code has 0 of them, as the plain bay says.
     pub fn positions(&self) -> u32
         ensures { result ≡ given (held self.now).code 0 (λ c. c.n) }
     {
@@ -25,6 +26,7 @@ impl<F: Fixed<Q, M>, const Q: u32, const M: u32> Bay<F, Q, M> {
     }
 
     // How many of them are checks.
+    // A number and no Option, as above.
     pub fn checks(&self) -> u32
         ensures { result ≡ given (held self.now).code 0 (λ c. c.checks) }
     {

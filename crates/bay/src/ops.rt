@@ -90,6 +90,7 @@ impl<F: Fixed<Q, M>, const Q: u32, const M: u32> Bay<F, Q, M> {
     }
 
     // Marks one position, and keeps its symbol.
+    // The test of the position stands here and in put: a function of it would need a clause longer than the test.
     pub fn mark(&mut self, pos: u32) -> Result<(), Refusal>
         ensures { Follows self.old self.new (numbered result) (marking (held self.old) pos) }
     {

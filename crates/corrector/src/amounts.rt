@@ -1,4 +1,5 @@
 // The amounts at the located positions, and the word that they mend.
+// That places lie inside the word or the turn is a clause: they come as a plain slice, and the bound is the code's or the field's.
 ghost use Rattle.std.specs.Prelude.{◌≡◌, ◌<◌, ◌≤◌, length, is_ok, MatchOption};
 ghost use Rattle.field.specs.Symbols.{Within};
 ghost use Rattle.code.specs.Shape.{shape};

@@ -39,6 +39,7 @@ impl<'a, F: Fixed<Q, M>, const Q: u32, const M: u32> Received<'a, F, Q, M> {
         requires room { length out.old ≡ (shape self.now.over.code).n }
         ensures { Repaired (F.Field.means self.now.over.field.now) (shape self.now.over.code) self.now.erased.now self.now.word.now (is_ok result) out.new }
     {
+        // Local arrays, since a call on a bay takes no memory.
         let mut left = [0; COEFFICIENTS];
         let mut right = [0; COEFFICIENTS];
         let order = s as i32 - 1;
@@ -89,6 +90,7 @@ impl<'a, F: Fixed<Q, M>, const Q: u32, const M: u32> Received<'a, F, Q, M> {
         requires room { length out.old ≡ (shape self.now.over.code).n }
         ensures { Found (F.Field.means self.now.over.field.now) (shape self.now.over.code) self.now.erased.now self.now.word.now (is_ok result) out.new }
     {
+        // A local array, since a call on a bay takes no memory.
         let mut row = [0; CHECKS];
         let checks = self.over.code.checks() as usize;
         self.find_with(&mut row[..checks], out)

@@ -1,4 +1,5 @@
 // Syndromes: the check sums of a word, and what is left of them once the erasures are taken out.
+// That rows are symbols is a clause of each step: a slice that is written has no type that says so without a copy.
 ghost use Rattle.std.specs.Prelude.{◌≡◌, ◌<◌, ◌≤◌, length};
 ghost use Rattle.field.specs.Symbols.{Within};
 ghost use Rattle.code.specs.Shape.{shape};

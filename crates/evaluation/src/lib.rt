@@ -44,6 +44,7 @@ pub fn powers<F: Fixed<Q, M>, const Q: u32, const M: u32>(
     for x in out.iter_mut() {
         // By `as`, which is proved to lose nothing: `try_from` would test it once more for each place.
         *x = field.power(e as u16);
+        // The step round stands here and in `value`: a function of it would need a clause longer than its lines.
         e += by;
         if e >= M {
             e -= M;

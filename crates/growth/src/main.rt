@@ -8,6 +8,7 @@ use std::io;
 use std::time::Instant;
 
 // Room for the coefficients and for each half.
+// Local arrays of one fixed size: parts of them are lent, and a Vec would be no plainer.
 const TERMS: usize = 512;
 
 const PLACES: usize = TERMS + 1;

@@ -25,6 +25,7 @@ fn accepted(heap: Global, n: u32, call: Call) -> Result<String, AllocError>
             answer_line(heap, Ok(symbols.as_slice()))
         }
         Call::Report(mut numbers) => {
+            // Never empty: a report's room has its count first.
             let changes = numbers.first().copied().unwrap_or(0) as usize;
             numbers.truncate(2 + 2 * changes);
             answer_line(heap, Ok(numbers.as_slice()))

@@ -7,6 +7,7 @@ use std::alloc::{AllocError, Global};
 use std::iter;
 
 // Which field it is.
+// An enum, and no trait with a type for each: that is the library's design, and this shares nothing with it.
 #[derive(Clone, Copy)]
 pub enum Kind {
     // Whole numbers modulo 929.
@@ -140,6 +141,7 @@ impl Arithmetic {
     }
 
     // The sum of two symbols; 0 where a number is no symbol.
+    // That an answer is a symbol is a clause of each call: numbers stay plain, as the library's fields answer them.
     pub fn sum(&self, x: u32, y: u32) -> u32
         ensures symbol { result < size self.now.kind }
         ensures value { result ≡ sum self.now.kind x y }

@@ -1,4 +1,5 @@
 // Systems of linear equations over a field, by elimination.
+// The field stands beside the rows, as in words.rt and correction.rt.
 use crate::arithmetic::Arithmetic;
 use crate::places::{at, put};
 use std::alloc::AllocError;
@@ -29,10 +30,12 @@ pub(crate) fn solution(
 ) -> Result<Option<Vec<u32>>, AllocError> {
     let mut open = equations;
     let mut solved: Vec<(usize, Vec<u32>)> = Vec::new(field.heap);
+    // By column: a step reads and writes that place of every row, which no iterator lends.
     for column in 0..unknowns {
         let found = open.iter().position(|row| at(row, column) != 0);
         if let Some(i) = found {
             let mut pivot = open.swap_remove(i);
+            // Never 0: the pivot's number in this column is a symbol other than 0.
             let factor = field.reciprocal(at(&pivot, column)).unwrap_or(0);
             multiply(field, &mut pivot, factor);
             for row in open.iter_mut() {

@@ -1,4 +1,5 @@
 // The least pair of a congruence, by linear equations: for each term in rising order, whether a pair leads with it.
+// The field stands beside g, since the library's side of a trial takes the same g over a field of its own type.
 use crate::arithmetic::Arithmetic;
 use crate::equations::solution;
 use crate::places::{at, put};

@@ -7,6 +7,7 @@ use crate::arithmetic::Arithmetic;
 use crate::words::Shape;
 
 // Why a call is refused, each with the number of its row.
+// Beside the library's Refusal, and the rules below beside its own tests: this crate shares nothing with what it is held against.
 #[derive(Clone, Copy, Debug, PartialEq, Eq)]
 pub enum Rule {
     Positions = 1,

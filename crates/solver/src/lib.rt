@@ -30,6 +30,7 @@ pub type LeastPair = (usize, usize, Side);
 // The least pair of a ≡ b·g modulo x^n in order r, with leading coefficient 1: its halves go to the first n + 1 places of
 // the buffers, lowest coefficient first. A refusal leaves the buffers as they are.
 // n stands beside g, although it is g's length, since a call whose n is another number is refused.
+// The two buffers go apart, as they are handed in.
 pub fn solve<F: Fixed<Q, M>, const Q: u32, const M: u32>(
     field: &F,
     g: &[u32],

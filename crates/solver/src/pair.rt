@@ -13,6 +13,7 @@ pub(crate) const ROOM: usize = 513;
 // A pair of polynomials, the exponent of its leading term, and how many places of its halves are in use. The halves are
 // arrays with a size beside them, since a call takes no memory from the heap. That they hold symbols stands in clauses:
 // in the type, it would take the field's Q and M as parameters of every function here.
+// That top and size leave room is a clause of each step too: a raise uses it up, so no bound in the type would say it.
 #[derive(Drop)]
 pub(crate) struct Pair {
     pub(crate) top: usize,

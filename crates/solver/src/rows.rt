@@ -1,5 +1,5 @@
-// Rows of symbols as polynomials, lowest coefficient first, worked in place. A factor is a plain number that a clause bounds, as a
-// field is asked by plain numbers.
+// Rows of symbols as polynomials, lowest coefficient first, worked in place. Rows and factors are plain, and clauses say that they
+// are symbols, as a field is asked by plain numbers.
 ghost use Rattle.std.specs.Prelude.{◌≡◌, ◌+◌, ◌<◌, ◌≤◌, length};
 ghost use Rattle.field.specs.Symbols.{Within};
 ghost use Rattle.field.specs.Sums.{coefficient};

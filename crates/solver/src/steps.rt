@@ -81,6 +81,7 @@ impl Basis {
     }
 
     // Both discrepancies at k.
+    // k stands beside the congruence: it is the exponent of the turn, and another each time, while the congruence stays.
     fn discrepancies<F: Field>(&self, congruence: &Congruence<F>, k: usize) -> (u32, u32)
         requires below { k < length congruence.now.g.now }
         requires one { Short (F.Field.means congruence.now.field.now).q k self.now.left }

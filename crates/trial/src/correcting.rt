@@ -13,6 +13,7 @@ use second::words::Shape;
 use std::alloc::AllocError;
 
 // A word of a code that damage is done to, and whether each of its positions is marked.
+// Two rows, as in Received: marks of another length than the word are a case too.
 #[derive(Drop)]
 struct Damaged {
     shape: Shape,

@@ -5,6 +5,7 @@ use field::Fixed;
 use second::words::Shape;
 
 // The code of three numbers.
+// No TryFrom<Shape> for Code, since both are of other crates.
 fn code(shape: Shape) -> Result<Code, Row> {
     Ok(Code::new(shape.n, shape.checks, shape.first)?)
 }

@@ -11,6 +11,7 @@ use solver::{LeastPair, Side, solve};
 use std::alloc::AllocError;
 
 // What a call of the solver is given, but for the field: the coefficients, their number, the order, and the two buffers.
+// n stands beside g, since a call whose n is another number is a case too.
 #[derive(Drop)]
 struct Request {
     g: Vec<u32>,
@@ -27,6 +28,7 @@ struct Buffers {
 }
 
 // How many coefficients there are up to the last that is not 0.
+// Beside the solver's own count, which is what it is held against.
 fn count(xs: &[u32]) -> usize {
     xs.iter()
         .rposition(|x| *x != 0)
@@ -56,6 +58,7 @@ fn write_over(half: &[u32], buffer: &mut [u32]) {
 fn told(pair: &Pair, after: &mut Buffers) -> LeastPair {
     write_over(&pair.left, &mut after.left);
     write_over(&pair.right, &mut after.right);
+    // No From<Term> for Side, since both are of other crates.
     let side = match pair.leading {
         Term::Left(_) => Side::Left,
         Term::Right(_) => Side::Right,

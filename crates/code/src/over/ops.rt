@@ -43,6 +43,7 @@ impl<'a, F: Fixed<Q, M>, const Q: u32, const M: u32> FieldCode<'a, F, Q, M> {
         ensures { numbered result ≡ belonging (F.Field.means self.now.field.now).q (shape self.now.code) word.now (check_sum (F.Field.means self.now.field.now) (shape self.now.code) word.now j) }
     {
         self.fit(word)?;
+        // By `as`, as in `weighed_sum`.
         Ok(self.weighed_sum(word, self.code.first_root() as u64 + j as u64))
     }
 
