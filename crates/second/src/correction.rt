@@ -4,6 +4,7 @@ use crate::equations::solution;
 use crate::places::{at, put};
 use crate::words::Shape;
 use std::alloc::AllocError;
+use std::iter;
 
 // A word of a code as it came, and whether each of its positions is marked.
 // It holds no field, since the library's side of a trial takes the same values over a field of its own type.
@@ -20,9 +21,14 @@ fn recurrence(field: &Arithmetic, sums: &[u32], e: usize) -> Result<Option<Vec<u
     let mut equations = Vec::new(field.heap);
     for window in sums.windows(e.saturating_add(1)) {
         if let Some((next, earlier)) = window.split_last() {
-            let mut equation = earlier.to_vec(field.heap)?;
-            equation.push(field.opposite(*next))?;
-            equations.push(equation)?;
+            let right = field.opposite(*next);
+            equations.push(
+                earlier
+                    .iter()
+                    .copied()
+                    .chain(iter::once(right))
+                    .collect(field.heap)?,
+            )?;
         }
     }
     solution(field, e, equations)

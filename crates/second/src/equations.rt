@@ -29,7 +29,7 @@ pub(crate) fn solution(
     equations: Vec<Vec<u32>>,
 ) -> Result<Option<Vec<u32>>, AllocError> {
     let mut open = equations;
-    let mut solved: Vec<(usize, Vec<u32>)> = Vec::new(field.heap);
+    let mut solved: Vec<(usize, Vec<u32>)> = Vec::with_capacity(field.heap, open.len())?;
     // By column: a step reads and writes that place of every row, which no iterator lends.
     for column in 0..unknowns {
         let found = open.iter().position(|row| at(row, column) != 0);

@@ -4,6 +4,7 @@ use crate::arithmetic::Arithmetic;
 use crate::equations::solution;
 use crate::places::{at, put};
 use std::alloc::{AllocError, Global};
+use std::iter;
 
 // A power of x in one half of a pair.
 #[derive(Clone, Copy)]
@@ -80,13 +81,12 @@ fn below(
     lower: &[Term],
     leading: Term,
 ) -> Result<Option<Vec<u32>>, AllocError> {
-    let mut equations = Vec::new(field.heap);
+    let mut equations = Vec::with_capacity(field.heap, g.len())?;
     // One equation for each coefficient of a − b·g: k is an exponent, and no place in a row.
     for k in 0..g.len() {
         let shares = lower.iter().map(|term| term.share(field, g, k));
-        let mut equation: Vec<u32> = shares.collect(field.heap)?;
-        equation.push(field.opposite(leading.share(field, g, k)))?;
-        equations.push(equation)?;
+        let right = field.opposite(leading.share(field, g, k));
+        equations.push(shares.chain(iter::once(right)).collect(field.heap)?)?;
     }
     solution(field, lower.len(), equations)
 }

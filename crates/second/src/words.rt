@@ -2,6 +2,7 @@
 use crate::arithmetic::Arithmetic;
 use crate::equations::solution;
 use std::alloc::AllocError;
+use std::iter;
 
 // n positions, of which the first `checks` are the checks, and the exponent of the first root.
 // It holds no field, since the library's side of a trial takes the same values over a field of its own type.
@@ -48,12 +49,10 @@ impl Shape {
         positions: &[usize],
         sums: &[u32],
     ) -> Result<Option<Vec<u32>>, AllocError> {
-        let mut equations = Vec::new(field.heap);
+        let mut equations = Vec::with_capacity(field.heap, sums.len())?;
         for (j, sum) in sums.iter().enumerate() {
             let weights = positions.iter().map(|i| self.weight(field, *i, j));
-            let mut equation: Vec<u32> = weights.collect(field.heap)?;
-            equation.push(*sum)?;
-            equations.push(equation)?;
+            equations.push(weights.chain(iter::once(*sum)).collect(field.heap)?)?;
         }
         solution(field, positions.len(), equations)
     }
