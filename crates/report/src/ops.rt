@@ -72,12 +72,10 @@ impl Report {
         }
         out[0] = count as u32;
         out[1] = self.met;
-        // The places are counted, since a zip with `iter_mut` proves nothing of what it writes.
+        // Both halves in one pass, and the places are counted, since a zip with `iter_mut` proves nothing of what it writes.
         for (i, change) in self.changes.iter().enumerate() {
             out[2 + i] = change.position;
-        }
-        for (j, change) in self.changes.iter().enumerate() {
-            out[2 + count + j] = change.former;
+            out[2 + count + i] = change.former;
         }
         Ok(())
     }
