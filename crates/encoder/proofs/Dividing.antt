@@ -1,5 +1,5 @@
 -- What a division by the generator keeps: at each root, the value of the row.
-use Rattle.std.proofs.Common.{◌≡◌, ℕ, suc, ◌+◌, ◌-◌, ◌<◌, ◌≤◌, List, length, get_or, take, drop, sym, ap, ◌∙◌, subst, ap₂, arith, length-drop, get_or-drop, get_or-take}
+use Rattle.std.proofs.Common.{◌≡◌, ℕ, suc, ◌+◌, ◌-◌, ◌<◌, ◌≤◌, List, length, get_or, take, drop, sym, refl, ap, ◌∙◌, subst, ap₂, arith, length-drop, get_or-drop, get_or-take}
 use native.Mathlib.Decide.{dec_lt}
 use borrow.Rule.Slice.PartMut.{put_mid}
 use Rattle.field.specs.Meaning.{Meaning, Laws}
@@ -11,12 +11,19 @@ use Rattle.field.proofs.Parts.{cut, put_low, put_middle, put_high}
 use Rattle.field.proofs.Lifting as B
 use Rattle.algebra.proofs.Roots as R
 use Rattle.algebra.proofs.Division as D
-use Rattle.encoder.specs.Register.{Generates}
+use Rattle.encoder.specs.Register.{Generates, Divided}
 
 -- at each root the first i places of the row now have the value of the whole row as it was
 pub record Dividing (f : Meaning) (b r i : ℕ) (old now : List ℕ) : Type 0 where
   pub within : Within f.q now
   pub values : (j : ℕ) → j < r → value f (length old) old (b + j) ≡ value f i now (b + j)
+
+-- nothing is taken off yet, and all is
+pub dividing_none : (f : Meaning) (b r : ℕ) (row : List ℕ) → Within f.q row → Dividing f b r (length row) row row
+dividing_none f b r row h = record { within = h; values = λ j _. refl }
+
+pub dividing_all : (f : Meaning) (b r i : ℕ) (old now : List ℕ) → i ≡ r → Dividing f b r i old now → Divided f b r old now
+dividing_all f b r i old now e d = record { within = d.within; values = λ j h. d.values j h ∙ ap (λ n. value f n now (b + j)) e }
 
 -- the places d to d + r - 1 take a multiple of the generator, and the others stay
 pub record Taken (f : Meaning) (c d r : ℕ) (g old new : List ℕ) : Type 0 where
