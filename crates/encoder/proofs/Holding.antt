@@ -1,5 +1,5 @@
 -- What the register holds: with the part of the message that it took in, it is 0 at every root.
-use Rattle.std.proofs.Common.{◌≡◌, ℕ, suc, ◌+◌, ◌-◌, ◌<◌, ◌≤◌, List, ◌++◌, length, get_or, reverse, sym, refl, ap, ◌∙◌, subst, ap₂, add-zero, arith, length-append}
+use Rattle.std.proofs.Common.{◌≡◌, ℕ, suc, ◌+◌, ◌-◌, ◌<◌, ◌≤◌, List, ◌++◌, length, get_or, reverse, drop, sym, refl, ap, ◌∙◌, subst, ap₂, add-zero, arith, length-append, length-drop, get_or-drop}
 use Prim.Native.Nat.{Fin}
 use native.Mathlib.Decide.{dec_lt}
 use Rattle.std.proofs.lemmas.List.{get_or_append_left, get_or-append_right, get_or-reverse, get_or_default, length-reverse}
@@ -33,6 +33,17 @@ from_end m n x h e =
     let low : n < length m = omega (arith, length-reverse m) in
     (low, e ∙ get_or-reverse m n x low ∙ get_or_default m _ x 0 (omega arith))
 
+-- the same in m, of which xs are the last places
+pub from_tail : (m xs : List ℕ) (n x : ℕ) → xs ≡ drop (length m - length xs) m → n < length (reverse xs) → x ≡ get_or (reverse xs) n x
+    → (n < length m) × (x ≡ get_or m (length m - 1 - n) 0)
+from_tail m xs n x t h e =
+    let p = from_end xs n x h e in
+    let low : n < length xs = p.0 in
+    let few : length xs ≤ length m = omega (arith, ap length t, length-drop (length m - length xs) m) in (
+      omega arith,
+      p.1 ∙ ap (λ ys. get_or ys (length xs - 1 - n) 0) t ∙ get_or-drop (length m - length xs) m _ 0 ∙ ap (λ i. get_or m i 0) (omega arith),
+    )
+
 module _ (f : Meaning) (l : Laws f) where
   abbrev F : Field (Fin f.q)
   F = lift f l
@@ -48,13 +59,18 @@ module _ (f : Meaning) (l : Laws f) where
         ∙ ap ((lift f l).◌⊗◌ _) (D.ev_o (lift f l) _ _) ∙ C.mul_o (lift f l) _) ∙ C.add_o (lift f l) _;
   }
 
+  -- a symbol and the opposite of another, summed
+  pub fed : (o c a b : ℕ) → (a < f.q → o ≡ f.opp a) → (b < f.q → o < f.q → c ≡ f.sum b o) → a < f.q → b < f.q → (c ≡ f.sum b (f.opp a)) × (c < f.q)
+  fed o c a b eo ec a_in b_in =
+      let o_in : o < f.q = rw (eo a_in) (l.opp_in _ a_in) in
+      (ec b_in o_in ∙ ap (f.sum b) (eo a_in), rw (ec b_in o_in) (l.sum_in _ _ b_in o_in))
+
   -- what goes back into the register with the symbol x
   pub fed_back : (x o c t r : ℕ) (v : List ℕ) → t ≡ r → x < f.q → Within f.q v → (get_or v t 0 < f.q → o ≡ f.opp (get_or v t 0)) → (x < f.q → o < f.q → c ≡ f.sum x o)
       → (c ≡ f.sum x (f.opp (get_or v r 0))) × (c < f.q)
   fed_back x o c t r v et x_in v_in eo ec =
-      let o_is : o ≡ f.opp (get_or v r 0) = eo (v_in t) ∙ ap (λ n. f.opp (get_or v n 0)) et in
-      let o_in : o < f.q = rw o_is (l.opp_in _ (v_in r)) in
-      (ec x_in o_in ∙ ap (f.sum x) o_is, rw (ec x_in o_in) (l.sum_in _ _ x_in o_in))
+      let p = fed o c _ x eo ec (v_in t) x_in in
+      (p.0 ∙ ap (λ n. f.sum x (f.opp (get_or v n 0))) et, p.1)
 
   holding_next : (b r i c x : ℕ) (g m old new : List ℕ) → Generates f b (suc r) g → Within f.q m → Holding f b (suc r) (suc i) m old → i < length m
       → x ≡ get_or m i 0 → c ≡ f.sum x (f.opp (get_or old r 0)) → Turned f c r g old new → Holding f b (suc r) i m new
