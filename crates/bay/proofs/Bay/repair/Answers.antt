@@ -19,7 +19,7 @@ use Rattle.bay.specs.Held.{held}
 use Rattle.bay.proofs.Holding.{done_with}
 use Rattle.bay.proofs.Fitting.{fits_kept, fits_erased}
 use Rattle.bay.proofs.Correcting.{is_corrected, is_refused, moved}
-use Rattle.bay.proofs.Changing.{few_changes}
+use Rattle.bay.proofs.Changing.{few_changes, few_back}
 use Rattle.bay.proofs.Bay.repair.Goals as goal
 
 pub returns-in_err-correct : goal.returns-in_err-correct
@@ -52,8 +52,11 @@ unwrap-requires-2 g c =
     let near = (moved f d marks word c.correct.ensures).near (ap numbered c.in_ok-correct.was) in
     let long : length old ≡ d.n = sym s.word.ok.0 ∙ s.long ∙ ap width c.requires.coded in
     let narrow : length old ≤ 928 = subst (λ (k : ℕ). k ≤ 928) (sym long) c.args.code.most in
-    let can = few old new (near.word.long ∙ sym long) narrow (few_changes f d (flags s.lost) old new near long c.args.code.few) in
-    let tells : reportable c.as_slice-2.result.now new ≡ true = ap (λ (w : List ℕ). reportable w new) c.as_slice-2.ensures.value ∙ sym can in
+    let same = near.word.long ∙ sym long in
+    let changed = few_changes f d (flags s.lost) old new near long c.args.code.few in
+    let tells : reportable c.as_slice-2.result.now new ≡ true = ap (λ (w : List ℕ). reportable w new) c.as_slice-2.ensures.value ∙ sym (few old new same narrow changed) in
+    -- the other way round too: which word comes first counts in `returns` alone
+    let tells_back : reportable new c.as_slice-2.result.now ≡ true = ap (reportable new) c.as_slice-2.ensures.value ∙ sym (few_back old new same narrow changed) in
     search rules
 
 pub invariant_of-self-2-clause-symbols : goal.invariant_of-self-2-clause-symbols
